@@ -24,14 +24,13 @@ use Rattle.algebra.proofs.cells.CellGroup.{factor_action, closed, implied_zero}
 use Rattle.algebra.proofs.cells.CellTests.{Positive}
 use Rattle.numbers.specs.Value.{prime, Value, field, conj, ring, value_of}
 use Rattle.numbers.specs.Bounds.{res}
-use Rattle.numbers.proofs.Residues.{res_ring, val_res}
+use Rattle.numbers.proofs.Residues.{val_res}
 use Rattle.numbers.proofs.Values.{value_path, field_ring, field_star}
 use Rattle.slices.specs.Pairs.{at, Below, values_of}
 use Rattle.cell.specs.Volume.{line_kind, over_i, times_i, layers, rows, columns, volume_pairs, pair_place, pair_numbers, line_numbers, numbers_read, whole_line, line_in, factors_in}
 use Rattle.cell.specs.NumbersRead.{SameAt, NumbersReadExactly}
 use Rattle.cell.proofs.VolumeLayout.{place_inside}
-use Rattle.algebra.proofs.cells.CellPack.{times_over}
-use Rattle.cell.proofs.RotatedLines.{over_none}
+use Rattle.cell.proofs.RotatedLines.{times_over, over_none}
 use Rattle.cell.proofs.LineReading.{by_half, read_line, read_plain, read_symmetric, alternating_first, alternating_middle, alternating_low, read_first, read_last, read_between}
 use Rattle.cell.proofs.Reading.{pairs_in, line_at, line_beyond, mate_is, implied_friedel}
 
@@ -164,7 +163,7 @@ stored_read P2₁ a pos m j lh lk s = read_by_alternating P2₁ a pos m j.0 j.1 
 stored_read Pm a pos m j lh lk s = read_by_symmetric Pm a pos m j.0 j.1 lh lk (omega arith) j.2 s
 stored_read Pa a pos m j lh lk s = read_by_mirror Pa a pos m j.0 j.1 lh lk (omega arith) (even j.0) j.2 s
 stored_read P2₁2₁2₁ a pos m j lh lk s =
-    read_through m (volume_pairs P2₁2₁2₁ a) (over_i m (not (even j.0))) (times_i m (not (even j.0))) (times_over (res_ring m) (not (even j.0))) (over_none m (not (even j.0)))
+    read_through m (volume_pairs P2₁2₁2₁ a) (over_i m (not (even j.0))) (times_i m (not (even j.0))) (times_over m (not (even j.0))) (over_none m (not (even j.0)))
     (read_by_alternating P2₁2₁2₁ a pos m j.0 j.1 lh lk (omega arith) j.2 s)
 
 -- beyond the stored range the line's own operation leads to the same numbers

@@ -38,6 +38,7 @@ use Rattle.slices.specs.Pairs.{at, Below, values_of}
 use Rattle.cell.specs.Volume.{line_kind, rotated, times_i, over_i, first_pair, pair_place, rows, columns, layers, volume_length, whole_line, line_in, factors_in, packed, pack_factors}
 use Rattle.cell.specs.Consistency.{same_value}
 use Rattle.cell.proofs.VolumeLayout.{length_volume, at_volume, below_volume}
+use Rattle.cell.proofs.RotatedLines.{times_is, over_is}
 use Rattle.cell.proofs.LineReading.{read_line, read_plain, read_alternating, read_symmetric, read_antisymmetric, mirror_alternating, mirror_symmetric, mirror_antisymmetric, packed_plain, packed_alternating, packed_symmetric, packed_antisymmetric, packed_first, packed_last}
 
 -- the test of two values
@@ -105,7 +106,7 @@ line_stored P1 a pos m v h k e l s = read_plain m a.2 (λ w. pairs_in P1 a m v w
 line_stored P2₁ a pos m v h k e l s = read_alternating m a.2 (λ w. pairs_in P2₁ a m v w h k) pos l s
 line_stored Pm a pos m v h k e l s = read_symmetric m a.2 pos (λ w. pairs_in Pm a m v w h k) l s
 line_stored Pa a pos m v h k e l s = mirror_stored Pa a m v pos (even h) (λ w. pairs_in Pa a m v w h k) e l s
-line_stored P2₁2₁2₁ a pos m v h k e l s = ap (over_i m (not (even h))) (read_alternating m a.2 (λ w. pairs_in P2₁2₁2₁ a m v w h k) pos l s)
+line_stored P2₁2₁2₁ a pos m v h k e l s = ap (over_i m (not (even h))) (read_alternating m a.2 (λ w. pairs_in P2₁2₁2₁ a m v w h k) pos l s) ∙ over_is m (even h) _
 
 -- beyond the stored range an alternating line, whatever the group ..
 alternating_beyond : (g : Group) (a : J) (m : ℕ) (v : List ℕ) (j : J) → Inside a j → suc a.2 ≤ j.2
@@ -128,8 +129,9 @@ line_beyond Pa a m v j n s =
     let e : neg_i a.2 j.2 ≡ 2 * a.2 - j.2 = neg_pos a.2 j.2 (omega arith) n.2 in
     mirror_beyond Pa a m v (even j.0) (λ w. pairs_in Pa a m v w j.0 j.1) j.2 (neg_i a.2 j.2) (omega arith) (omega (arith, n.2)) (omega (arith, n.2)) ∙ sym (implied_Pa m j _)
 line_beyond P2₁2₁2₁ a m v j n s =
-    ap (over_i m (not (even j.0))) (alternating_beyond P2₁2₁2₁ a m v j n s)
+    ap (over_i m (not (even j.0))) (alternating_beyond P2₁2₁2₁ a m v j n s) ∙ over_is m (even j.0) _
     ∙ rotated_back (res_ring m) (half m) (half_residue m) (even j.0) _ _
+    ∙ ap (λ y. (field m).mul (sign_of (res_ring m) (even j.0)) ((field m).mul (pow (field m) (minus m j (value m 0 0)) j.2) (conj m y))) (sym (over_is m (even j.0) _))
     ∙ sym (implied_4 m j _)
 
 module _ (g : Group) (a : J) (m : ℕ) where
@@ -182,7 +184,8 @@ packed_is P2₁ a long m F o w h k lw lh lk = alternating_packed a long m F P2�
 packed_is Pm a long m F o w h k lw lh lk = packed_symmetric Pm a m (F h k) w lw
 packed_is Pa a long m F o w h k lw lh lk = mirror_packed a long m F o h k w lh (omega (arith, long.1)) lw (even h) refl
 packed_is P2₁2₁2₁ a long m F o w h k lw lh lk =
-    alternating_packed a long m F P2₁2₁2₁ _ (alt_4 (res_ring m) (half m) (half_residue m) a long F o h k lh (omega (arith, long.1))) w lw
+    ap (λ (X : ℕ → Value m). packed P2₁2₁2₁ a m alternating X w) (λ i l. times_is m (even h) (F h k l) i)
+    ∙ alternating_packed a long m F P2₁2₁2₁ _ (alt_4 (res_ring m) (half m) (half_residue m) a long F o h k lh (omega (arith, long.1))) w lw
 
 module _ (g : Group) (a : J) (m : ℕ) (F : Cell (Value m)) where
   pub length_factors : length (pack_factors g a m F) ≡ volume_length g a

@@ -29,10 +29,11 @@ use Rattle.slices.specs.Pairs.{at, put, Below}
 use Rattle.slices.proofs.Pairs.{length_put, at_put_same, at_put_other}
 use Rattle.slices.proofs.Rows.{block_inj}
 use Rattle.slices.proofs.Bounds.{below_set, below_put}
-use Rattle.cell.specs.Volume.{line_kind, rotated, times_i, first_pair, pair_place, rows, columns, layers, volume_length}
+use Rattle.cell.specs.Volume.{line_kind, times_i, first_pair, pair_place, rows, columns, layers, volume_length}
 use Rattle.cell.specs.Consistency.{write_alternating, write_line, write, written_pair, write_images}
 use Rattle.cell.proofs.VolumeLayout.{place_inside}
 use Rattle.cell.proofs.LineReading.{by_half}
+use Rattle.cell.proofs.RotatedLines.{times_is}
 use Rattle.cell.proofs.Reading.{pairs_in}
 
 -- one number of a pair, set: the other stays
@@ -127,7 +128,8 @@ module _ (a : J) (m : ℕ) (pos : 0 < a.2) (v : List ℕ) where
           (λ t. same_holds Pa a m v B e j.2 j.0 j.1 x (old (ap (λ b. cond b symmetric antisymmetric) q, t)))
           (λ t. new)
   write_holds P2₁2₁2₁ len B e j n s x old =
-      alternating_holds a m pos v B len e j.0 j.1 n.0 (omega (arith, s.0)) (times_i m (rotated P2₁2₁2₁ j.0) x) j.2 s.1
+      subst (λ y. Holds P2₁2₁2₁ a m (write_alternating P2₁2₁2₁ a v j.0 j.1 j.2 (written_pair P2₁2₁2₁ a m j x)) (put_alt (ring m) a.2 B j.0 j.1 j.2 y)) (times_is m (even j.0) x)
+      (alternating_holds a m pos v B len e j.0 j.1 n.0 (omega (arith, s.0)) (times_i m (not (even j.0)) x) j.2 s.1)
 
 -- the pairs that are left out stay zero
 module _ (a : J) (m : ℕ) where

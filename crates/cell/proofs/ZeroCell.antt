@@ -12,19 +12,19 @@ use Rattle.algebra.specs.cells.Cell.{J, Group, P1, P2₁, Pm, Pa, P2₁2₁2₁}
 use Rattle.algebra.specs.cells.CellPack as Pack
 use Rattle.algebra.specs.cells.CellPack.{even, part_of, pack_alt}
 use Rattle.algebra.specs.cells.CellSteps.{Lawful}
-use Rattle.algebra.proofs.ring.Laws.{zero_mul}
+use Rattle.algebra.proofs.ring.Laws.{neg_zero, zero_mul}
 use Rattle.algebra.proofs.fourier.Sums.{sum_all_zero}
 use Rattle.algebra.proofs.cells.CellGroup.{implied_zero}
 use Rattle.algebra.proofs.cells.CellTests.{Positive}
 use Rattle.numbers.specs.Value.{Value, field, conj, ring, value, value_of}
 use Rattle.numbers.proofs.Primes.{prime_pos}
-use Rattle.numbers.proofs.Values.{field_ring, field_star}
+use Rattle.numbers.proofs.Residues.{res_ring}
+use Rattle.numbers.proofs.Values.{value_path, field_ring, field_star}
 use Rattle.slices.proofs.Bounds.{below_replicate}
 use Rattle.slices.proofs.Segments.{at_zeros}
 use Rattle.cell.specs.Volume.{volume_length, pack_factors, axis, map_of}
 use Rattle.cell.specs.Consistency.{consistent_factors}
 use Rattle.cell.proofs.VolumeLayout.{place_inside}
-use Rattle.cell.proofs.RotatedLines.{times_none}
 use Rattle.cell.proofs.Consistency.{packed_list, factors_consistent}
 
 pub zero_lawful : (μ : ℕ) (g : Group) (a : J) → Lawful (field μ) (conj μ) a g (λ h k l. value μ 0 0)
@@ -36,8 +36,9 @@ either μ true = refl
 either μ false = refl
 
 zero_rotated : (μ : ℕ) (b : Bool) → Pack.times_i (ring μ) b (value μ 0 0) ≡ value μ 0 0
-unfolding gauss residues
-zero_rotated μ b = times_none μ b
+unfolding Pack.times_i residues
+zero_rotated μ true = refl
+zero_rotated μ false = value_path (neg_zero (res_ring μ)) refl
 
 zero_pair_lem : (μ : ℕ) (g : Group) (a : J) (w h k : ℕ) → Pack.pack_factors (ring μ) g a (λ h k l. value μ 0 0) w h k ≡ value μ 0 0
 unfolding Pack.pack_factors pack_alt
@@ -46,8 +47,8 @@ zero_pair_lem μ P2₁ a zero h k = either μ (even a.2)
 zero_pair_lem μ P2₁ a (suc w) h k = refl
 zero_pair_lem μ Pm a w h k = refl
 zero_pair_lem μ Pa a w h k = refl
-zero_pair_lem μ P2₁2₁2₁ a zero h k = ap (λ (x : Value μ). (x.0, part_of (ring μ) (even a.2) x)) (zero_rotated μ (Pack.rotated P2₁2₁2₁ h)) ∙ either μ (even a.2)
-zero_pair_lem μ P2₁2₁2₁ a (suc w) h k = zero_rotated μ (Pack.rotated P2₁2₁2₁ h)
+zero_pair_lem μ P2₁2₁2₁ a zero h k = ap (λ (x : Value μ). (x.0, part_of (ring μ) (even a.2) x)) (zero_rotated μ (even h)) ∙ either μ (even a.2)
+zero_pair_lem μ P2₁2₁2₁ a (suc w) h k = zero_rotated μ (even h)
 
 -- its packed factors are zeros
 pub zero_packed : (μ : ℕ) (g : Group) (a : J) → Positive a → pack_factors g a μ (λ h k l. value μ 0 0) ≡ replicate (volume_length g a) 0

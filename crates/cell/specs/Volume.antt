@@ -2,18 +2,16 @@
 -- both stand for. An axis is known by its half: a = (N1/2, B, A) with N2 = 2 B and N3 = 2 A. A volume has W * N1 * (B +
 -- 1) pairs.
 use Rattle.std.specs.Prelude.{◌&&◌, ◌||◌, ◌+◌, ◌*◌, ◌-◌, ◌/◌, ◌%◌, ◌∷◌}
-use Rattle.algebra.specs.Prelude.{Bool, cond, eqb, leb, ltb, ℕ, suc}
+use Rattle.algebra.specs.Prelude.{Bool, true, false, not, cond, eqb, leb, ltb, ℕ, suc}
 use Rattle.algebra.specs.Prelude.{min, List, [], get_or}
 use Rattle.algebra.specs.lines.Kinds.{Kind, Kind.plain, Kind.hermitian, Kind.antihermitian, Kind.alternating}
 use Rattle.algebra.specs.lines.Kinds.{Kind.symmetric, Kind.antisymmetric, slots, unfold_before, pack_before}
 use Rattle.algebra.specs.cells.Cell.{J, Group, P1, P2₁, Pm, Pa, P2₁2₁2₁, Cell, point_image, neg_i, planes}
 use Rattle.algebra.specs.cells.Cell.{point_operation}
 use Rattle.algebra.specs.cells.CellPack.{even}
-use Rattle.algebra.specs.cells.CellPack as Pack
-pub use Rattle.algebra.specs.cells.CellPack.{rotated}
 use Rattle.algebra.specs.ring.Ring.{Res}
 use Rattle.numbers.specs.declared.Pair.{Pair}
-use Rattle.numbers.specs.Value.{Value, ring, field, conj, i, half, real, value, pair_of}
+use Rattle.numbers.specs.Value.{Value, field, conj, i, half, real, value, pair_of}
 use Rattle.slices.specs.Pairs.{tab, values_of}
 use Rattle.algebra.specs.cells.Cell as C
 pub use Rattle.roots.specs.Root.{axis}
@@ -30,12 +28,22 @@ line_kind Pm h = symmetric
 line_kind Pa h = cond (even h) symmetric antisymmetric
 line_kind P2₁2₁2₁ h = alternating
 
--- a value times i and over i where the line is stored times i (`rotated`), else the value
+-- the line is stored times i: an odd h's line of P2₁2₁2₁ is alternating only so
+abbrev pub rotated : Group → ℕ → Bool
+rotated P1 h = false
+rotated P2₁ h = false
+rotated Pm h = false
+rotated Pa h = false
+rotated P2₁2₁2₁ h = not (even h)
+
+-- a value times i and over i where the line is rotated, else the value
 abbrev pub times_i : (m : ℕ) → Bool → Value m → Value m
-times_i m b x = Pack.times_i (ring m) b x
+times_i m false x = x
+times_i m true x = (field m).mul (i m) x
 
 abbrev pub over_i : (m : ℕ) → Bool → Value m → Value m
-over_i m b x = Pack.over_i (ring m) b x
+over_i m false x = x
+over_i m true x = (field m).mul ((field m).neg (i m)) x
 
 -- the first of the W pairs that belongs to a line of the kind: an antisymmetric line leaves the pairs 0 and A out
 abbrev pub first_pair : Kind → ℕ

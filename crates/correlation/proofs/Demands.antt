@@ -25,7 +25,7 @@ use Rattle.slices.proofs.Pairs.{lt_or_ge}
 use Rattle.combined.specs.CombinedMap.{limit, count_of}
 use Rattle.combined.proofs.PackedMaps.{packs}
 use Rattle.correlation.specs.Correlation.{shifted_by, total_of, correlation_at, correlation, over, magnitudes, largest, correlation_tests, Buffers, CorrelationOutcome, correlated_outcome, correlation_step}
-use Rattle.correlation.specs.Demands.{OneCount, GoesRound, Sensitive, WithinRange, SelfAtZero, GreatestAtZero}
+use Rattle.correlation.specs.Demands.{OneCount, GoesRound, Sensitive, SensitiveRound, WithinRange, SelfAtZero, GreatestAtZero}
 use Rattle.correlation.proofs.Limits.{count_most, shifted_inside, abs_below, sum_positive, correlation_most}
 use Rattle.correlation.proofs.Folding.{over_cong, over_add, over_most, over_round}
 use Rattle.correlation.proofs.Tests.{or_none}
@@ -92,12 +92,16 @@ round_at N u s t g = ⊎_elim
 pub sensitive : Sensitive
 sensitive c c' q a a' b w w' n n' u d e f l o s ls =
     let h = half_lengths c.lengths in
-    let moved = value_of c' c.lengths (sym q) a' b w' n' f s ls ∙ moved_at h a a' b u d l o s ∙ ap (λ k. k +ℤ d *ℤ count_of P1 h b (shifted_by h u s)) (sym (value_left c a b w n e s ls)) in
     record {
-      exactly = moved;
-      round = λ t x y z. moved ∙ ap (λ (k : J). count_of P1 h (correlation_step c a b w).buffers.output s +ℤ d *ℤ count_of P1 h b k) (triple (round_at (2 * h.0) u.0 s.0 t.0 x) (round_at (2 * h.1) u.1 s.1 t.1 y) (round_at (2 * h.2) u.2 s.2 t.2 z));
+      exactly = value_of c' c.lengths (sym q) a' b w' n' f s ls ∙ moved_at h a a' b u d l o s ∙ ap (λ k. k +ℤ d *ℤ count_of P1 h b (shifted_by h u s)) (sym (value_left c a b w n e s ls));
       most = omega (arith, abs_mul d (count_of P1 h b (shifted_by h u s)), mul-le-mul_left (nat_abs d) (count_most h b (shifted_by h u s) (shifted_inside h u s l)));
     }
+
+pub sensitive_round : SensitiveRound
+sensitive_round c c' q a a' b w w' n n' u d e f l o s ls t x y z =
+    let h = half_lengths c.lengths in
+    (sensitive c c' q a a' b w w' n n' u d e f l o s ls).exactly
+    ∙ ap (λ (k : J). count_of P1 h (correlation_step c a b w).buffers.output s +ℤ d *ℤ count_of P1 h b k) (triple (round_at (2 * h.0) u.0 s.0 t.0 x) (round_at (2 * h.1) u.1 s.1 t.1 y) (round_at (2 * h.2) u.2 s.2 t.2 z))
 
 -- ---- the range
 

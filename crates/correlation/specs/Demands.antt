@@ -14,20 +14,9 @@ pub record OneCount (h : J) (a a' : List ℤ) (u : J) (d : ℤ) : Type 0 where
   pub changed : count_of P1 h a' u ≡ count_of P1 h a u +ℤ d
   pub others : (x : J) → Inside h x → (x ≡ u → ⊥) → count_of P1 h a' x ≡ count_of P1 h a x
 
--- t is u + s on an axis of N points, where one goes round at its end; in these words no remainder is taken
-pub record GoesRound (N u s t : ℕ) : Type 0 where
-  pub low : t < N
-  pub sum : (u + s ≡ t) ⊎ (u + s ≡ t + N)
-
 -- the value at s moves by exactly d × b(u + s), so by no more than |d| times the largest magnitude in b
 pub record Moved (h : J) (b : List ℤ) (u : J) (d : ℤ) (s : J) (before after : ℤ) : Type 0 where
   pub exactly : after ≡ before +ℤ d *ℤ count_of P1 h b (shifted_by h u s)
-  pub round :
-      (t : J) →
-      GoesRound (2 * h.0) u.0 s.0 t.0 →
-      GoesRound (2 * h.1) u.1 s.1 t.1 →
-      GoesRound (2 * h.2) u.2 s.2 t.2 →
-      after ≡ before +ℤ d *ℤ count_of P1 h b t
   pub most : nat_abs (d *ℤ count_of P1 h b (shifted_by h u s)) ≤ nat_abs d * largest h b
 
 -- two calls of one cell that are both accepted, with any factor lists and any buffers
@@ -44,6 +33,29 @@ Sensitive =
     Moved h b u d s
     (count_of P1 h (correlation_step c a b w).buffers.output s)
     (count_of P1 h (correlation_step c' a' b w').buffers.output s)
+
+-- t is u + s on an axis of N points, where one goes round at its end; in these words no remainder is taken
+pub record GoesRound (N u s t : ℕ) : Type 0 where
+  pub low : t < N
+  pub sum : (u + s ≡ t) ⊎ (u + s ≡ t + N)
+
+-- so the value at s moves by exactly d × b(t), where t is u + s
+abbrev pub SensitiveRound : Type 0
+SensitiveRound =
+    (c c' : Header) → c.lengths ≡ c'.lengths →
+    (a a' b : List ℤ) (w w' : Buffers) (n n' : ℕ) (u : J) (d : ℤ) →
+    let h = half_lengths c.lengths in
+    (correlation_step c a b w).answer ≡ written n →
+    (correlation_step c' a' b w').answer ≡ written n' →
+    Inside h u →
+    OneCount h a a' u d →
+    (s : J) → Inside h s →
+    (t : J) →
+    GoesRound (2 * h.0) u.0 s.0 t.0 →
+    GoesRound (2 * h.1) u.1 s.1 t.1 →
+    GoesRound (2 * h.2) u.2 s.2 t.2 →
+    count_of P1 h (correlation_step c' a' b w').buffers.output s
+    ≡ count_of P1 h (correlation_step c a b w).buffers.output s +ℤ d *ℤ count_of P1 h b t
 
 -- the value at every shift is within the range of a combined map
 abbrev pub WithinRange : Type 0

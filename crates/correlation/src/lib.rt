@@ -16,7 +16,8 @@ ghost use Rattle.combined.specs.CombinedMap.{limit};
 ghost use Rattle.correlation.specs.Correlation.{magnitudes, largest, correlation, header_of, correlation_step};
 ghost use Rattle.correlation.specs.Steps.{axes_halves, SoundAxes};
 ghost use Rattle.correlation.specs.Answers.{buffers, correlation_outcome};
-ghost use Rattle.correlation.specs.Demands.{Sensitive, WithinRange, SelfAtZero, GreatestAtZero, RowEndsUnread};
+ghost use Rattle.correlation.specs.Demands.{Sensitive, SensitiveRound, WithinRange};
+ghost use Rattle.correlation.specs.Demands.{SelfAtZero, GreatestAtZero, RowEndsUnread};
 
 use crate::modulo::Axes;
 use output::FillAnswer;
@@ -117,6 +118,11 @@ fn correlate_sound(
 // function does nothing: it is there for its promise, as those below.
 pub fn sensitive()
     ensures { Sensitive }
+{}
+
+// The same, where u + s is said without a remainder.
+pub fn sensitive_round()
+    ensures { SensitiveRound }
 {}
 
 // The value at every shift is within the range of a combined map.

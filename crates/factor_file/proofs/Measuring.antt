@@ -12,7 +12,7 @@ use Rattle.refusals.proofs.Tests.{stop, pass, none, passed, append_stop, append_
 use Rattle.job.specs.declared.Job.{Job}
 use Rattle.output.specs.Output.{not_written, filled, not_filled}
 use Rattle.factor_file.specs.File.{job_file, room_tests, held_tests, write_tests, write_step, Sized, bytes, not_sized, length_step}
-use Rattle.factor_file.specs.Measured.{Measured}
+use Rattle.factor_file.specs.Measured.{Measured, MeasuredBefore}
 use Rattle.factor_file.proofs.writer.Files.{told}
 
 -- a number that is not that of the first test is that of another
@@ -84,7 +84,7 @@ module _ (j : Job) (v output : List ℕ) (n : ℕ) where
 
 pub measured : Measured
 unfolding write_step
-measured = record { short = λ j v output e. go j v output (told_number (job_file j v) output (first (write_tests j v output)) 18 e); enough = enough; fewer = fewer; alike = alike }
+measured = record { short = λ j v output e. go j v output (told_number (job_file j v) output (first (write_tests j v output)) 18 e) }
   where
     go : (j : Job) (v output : List ℕ) → first (write_tests j v output) ≡ 18 → length output < length (job_file j v)
     go j v output e =
@@ -94,3 +94,6 @@ measured = record { short = λ j v output e. go j v output (told_number (job_fil
         (passed_over _ 6 _ 18 (λ u. omega (arith, u))
         (passed_over _ 23 _ 18 (λ u. omega (arith, u))
         (passed_over _ 25 _ 18 (λ u. omega (arith, u)) e)))))
+
+pub measured_before : MeasuredBefore
+measured_before = record { enough = enough; fewer = fewer; alike = alike }

@@ -104,19 +104,15 @@ job_file j v = file_of (version_of j.modulus) j.modulus (header_of j) (map (file
 abbrev pub room_tests : (size room : ℕ) → List Test
 room_tests size room = ltb room size ⇒ 18 ∷ []
 
--- what a job that holds factors and its volume are asked for: 25, 23, 6, 7, 14
-abbrev pub held_tests : Job → (v : List ℕ) → List Test
-held_tests j v =
+-- Writer: 25, 23, 6, 7, 14, 18.
+abbrev pub write_tests : Job → (v output : List ℕ) → List Test
+write_tests j v output =
     not (valid_job j) ⇒ 25 ∷
     eqb j.state map_held ⇒ 23 ∷
     not (fits j v) ⇒ 6 ∷
     not (all_below (prime j.modulus) v) ⇒ 7 ∷
     not (consistent_factors (group_in j) (halves j) j.modulus v) ⇒ 14 ∷
-    []
-
--- Writer: 25, 23, 6, 7, 14, 18.
-abbrev pub write_tests : Job → (v output : List ℕ) → List Test
-write_tests j v output = held_tests j v ++ room_tests (length (job_file j v)) (length output)
+    room_tests (length (job_file j v)) (length output)
 
 unfoldable pub write_step : Job → (v output : List ℕ) → FillOutcome
 write_step j v output = accepted (first (write_tests j v output)) (filled (job_file j v) output) (not_filled output)
@@ -126,6 +122,16 @@ write_step j v output = accepted (first (write_tests j v output)) (filled (job_f
 pub data Sized : Type 0 where
   bytes : ℕ → Sized
   not_sized : (number : ℕ) → Sized
+
+-- the writer's tests but the last: 25, 23, 6, 7, 14
+abbrev pub held_tests : Job → (v : List ℕ) → List Test
+held_tests j v =
+    not (valid_job j) ⇒ 25 ∷
+    eqb j.state map_held ⇒ 23 ∷
+    not (fits j v) ⇒ 6 ∷
+    not (all_below (prime j.modulus) v) ⇒ 7 ∷
+    not (consistent_factors (group_in j) (halves j) j.modulus v) ⇒ 14 ∷
+    []
 
 unfoldable pub length_step : Job → (v : List ℕ) → Sized
 length_step j v = accepted (first (held_tests j v)) (bytes (length (job_file j v))) not_sized

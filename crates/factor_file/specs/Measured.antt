@@ -1,6 +1,5 @@
 -- What refusal 18 of the writer says: the output is shorter than the file. So a caller who is refused so and lends as
--- many places as the file has bytes is not refused so again. And what the call that measures the file says of the
--- writer: the places that it names are enough, fewer are not, and where it is refused the writer is refused alike.
+-- many places as the file has bytes is not refused so again.
 use Rattle.std.specs.Prelude.{◌≡◌, ◌<◌, ◌≤◌}
 use Rattle.algebra.specs.Prelude.{ℕ, List, length}
 use Rattle.job.specs.declared.Job.{Job}
@@ -11,6 +10,10 @@ pub record Measured : Type 0 where
   pub short : (j : Job) (v output : List ℕ) →
       (write_step j v output).answer ≡ not_written 18 →
       length output < length (job_file j v)
+
+-- What the call that measures the file says of the writer: the places that it names are enough, fewer are not, and
+-- where it is refused the writer is refused alike.
+pub record MeasuredBefore : Type 0 where
   pub enough : (j : Job) (v output : List ℕ) (n : ℕ) →
       length_step j v ≡ bytes n → n ≤ length output →
       write_step j v output ≡ filled (job_file j v) output

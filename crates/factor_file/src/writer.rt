@@ -4,7 +4,7 @@
 // writes them.
 ghost use Rattle.std.specs.Prelude.{◌≡◌, ◌≤◌, length};
 ghost use Rattle.factor_file.specs.File.{write_step, length_step};
-ghost use Rattle.factor_file.specs.Measured.{Measured};
+ghost use Rattle.factor_file.specs.Measured.{Measured, MeasuredBefore};
 ghost use Rattle.output.specs.Answers.{fill_outcome};
 ghost use Rattle.factor_file.specs.Answers.{said_size};
 ghost use Rattle.factor_file.specs.Steps.{filed_with, IsFactors};
@@ -101,8 +101,12 @@ pub fn file_length(job: Job, volume: &[u32]) -> SizeAnswer
     ))
 }
 
-// 18 is answered for an output that is shorter than the file, and for no other; and `file_length` tells how long that is. The function does
-// nothing; its promise is the statement.
+// 18 is answered for an output that is shorter than the file, and for no other. The function does nothing; its promise is the statement.
 pub fn measured()
     ensures { Measured }
+{}
+
+// And `file_length` tells how long the file is.
+pub fn measured_before()
+    ensures { MeasuredBefore }
 {}

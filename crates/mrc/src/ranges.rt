@@ -28,7 +28,7 @@ fn greater_of(x: i64, y: i64) -> i64
 }
 
 // The range of two ranges' numbers.
-fn range_of_both(r: DensityRange, s: DensityRange) -> DensityRange
+fn joined(r: DensityRange, s: DensityRange) -> DensityRange
     ensures { (result.least ≡ lesser r.least s.least)
         × (result.greatest ≡ greater r.greatest s.greatest) }
 {
@@ -56,7 +56,7 @@ fn row_range(map: &[i64], start: usize, n: usize) -> DensityRange
     let mut range = single(map[start]);
     let mut y: usize = 1;
     while y < n {
-        range = range_of_both(range, single(map[start + y]));
+        range = joined(range, single(map[start + y]));
         y += 1;
     }
     range
@@ -84,7 +84,7 @@ fn plane_range(cell: UnitCell, map: &[i64], z: u32) -> DensityRange
     let mut range = stored_row(cell, map, z, 0);
     let mut x: u32 = 1;
     while x < n1 {
-        range = range_of_both(range, stored_row(cell, map, z, x));
+        range = joined(range, stored_row(cell, map, z, x));
         x += 1;
     }
     range
@@ -99,7 +99,7 @@ pub fn map_range(cell: UnitCell, map: &[i64]) -> DensityRange
     let mut range = plane_range(cell, map, 0);
     let mut z: u32 = 1;
     while z < planes {
-        range = range_of_both(range, plane_range(cell, map, z));
+        range = joined(range, plane_range(cell, map, z));
         z += 1;
     }
     range

@@ -26,7 +26,7 @@ use Rattle.algebra.proofs.cells.CellLines.{line_P2₁, line_Pm, line_Pa, line_4}
 use Rattle.algebra.proofs.cells.CellLawful.{map_lawful}
 use Rattle.algebra.proofs.cells.CellPack.{sign_of, pow_even}
 use Rattle.prime_shape.specs.Shape.{Value, field, conj, i, part, Shape}
-use Rattle.prime_shape.specs.Transform.{root_of, axis_of, forward_of, inverse_of, whole_before, whole_after, HalfTangents, LineFacts, CellFacts, SumFacts, PassFacts, EveryPrime}
+use Rattle.prime_shape.specs.Transform.{root_of, axis_of, forward_of, inverse_of, whole_before, whole_after, HalfTangents, LineFacts, CellFacts, SumFacts, PassFacts, EveryPrime, EveryVolume}
 use Rattle.prime_shape.proofs.Inverses.{ring_of}
 use Rattle.prime_shape.proofs.Packed.{pack_facts}
 use Rattle.prime_shape.proofs.Shapes.{field_ring, field_star, part_law, half_law, half_turn, root_of_unity}
@@ -179,7 +179,9 @@ every_prime = record {
   cells = λ p c a r S A B C x y z dx dy dz. cell_facts S A B C (line_facts S A x dx) (line_facts S B y dy) (line_facts S C z dz);
   sums = λ p c a r S A B C x y z dx dy dz. sum_facts S A B C (line_facts S A x dx) (line_facts S B y dy) (line_facts S C z dz);
   passes = λ p c a r S A B C x y z dx dy dz. pass_facts S A B C (line_facts S A x dx) (line_facts S B y dy) (line_facts S C z dz);
-  volumes = λ p c a r S A B C x y z dx dy dz.
-      pack_facts S A B C (line_facts S A x dx) (line_facts S B y dy) (line_facts S C z dz)
-      (pass_facts S A B C (line_facts S A x dx) (line_facts S B y dy) (line_facts S C z dz));
 }
+
+pub every_volume : EveryVolume
+every_volume p c a r S A B C x y z dx dy dz =
+    pack_facts S A B C (line_facts S A x dx) (line_facts S B y dy) (line_facts S C z dz)
+    (pass_facts S A B C (line_facts S A x dx) (line_facts S B y dy) (line_facts S C z dz))

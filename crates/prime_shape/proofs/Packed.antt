@@ -1,7 +1,7 @@
 -- The lines of packed volumes under the passes, for every prime of the shape: a line that keeps the rule of its kind, packed, is taken to what is packed of its sums, and back.
 use mathlib.Core.Path.{◌≡◌, refl, sym, ◌∙◌, ap, ap₂, subst}
 use mathlib.Core.Logic.{◌⊎◌, inl, inr}
-use mathlib.Core.Bool.{Bool, true, false, not}
+use mathlib.Core.Bool.{Bool, true, false}
 use mathlib.Core.List.{[], ◌∷◌}
 use Prim.Native.Nat.{ℕ, zero, suc, ◌+◌, ◌*◌, ◌<◌}
 use native.Mathlib.Omega.{arith}
@@ -23,7 +23,7 @@ use Rattle.algebra.proofs.lines.Rules.{before_pack, after_pack, transform_rule, 
 use Rattle.algebra.proofs.cells.CellAxis.{neg_zero, neg_pos}
 use Rattle.algebra.proofs.cells.CellGroup.{factor_action, closed, operation_in, operation_stored, point_operation_stored}
 use Rattle.algebra.proofs.cells.CellLawful.{point_read}
-use Rattle.algebra.proofs.cells.CellPack.{real_0, part_c, pack_alternating, pack_iff}
+use Rattle.algebra.proofs.cells.CellPack.{imag_times, real_0, part_c, pack_alternating, pack_iff}
 use Rattle.algebra.proofs.cells.CellRecord.{record_packed}
 use Rattle.algebra.proofs.cells.CellRefusals.{zero_pair_lem}
 use Rattle.algebra.proofs.cells.CellSym.{image_inside}
@@ -113,18 +113,18 @@ module _ {p c a : ℕ} {r : Value p} (S : Shape p c a r) where
 
     module _ (F : Cell (Value p)) (o : Of p r A B C P2₁2₁2₁ F) (h k : ℕ) (lh : h < 2 * A) (lk : k < 2 * B) where
       -- by the parity of h
-      rotated_pass : (b : Bool) → even h ≡ b → {q : ℕ → Value p} → Pass p r C alternating (pack_alt (residues p) C (λ l. times_i (residues p) (not b) (F h k l))) q
+      rotated_pass : (b : Bool) → even h ≡ b → {q : ℕ → Value p} → Pass p r C alternating (pack_alt (residues p) C (λ l. times_i (residues p) b (F h k l))) q
           → Pass p r C alternating (λ w. pack_factors (residues p) P2₁2₁2₁ (A, B, C) F w h k) q
       unfolding pack_factors
-      rotated_pass b e {q} t = subst (λ b. Pass p r C alternating (pack_alt (residues p) C (λ l. times_i (residues p) (not b) (F h k l))) q) (sym e) t
+      rotated_pass b e {q} t = subst (λ b. Pass p r C alternating (pack_alt (residues p) C (λ l. times_i (residues p) b (F h k l))) q) (sym e) t
 
       even_pass : even h ≡ true → Pass p r C alternating (λ w. pack_factors (residues p) P2₁2₁2₁ (A, B, C) F w h k) (λ z. after_l (field p) (axis_of p r C) F h k z)
-      unfolding after_l
+      unfolding after_l times_i
       even_pass e = rotated_pass true e (alternating_pass (F h k) (f.p212121_even F o h k lh lk e))
 
       odd_pass : even h ≡ false → Pass p r C alternating (λ w. pack_factors (residues p) P2₁2₁2₁ (A, B, C) F w h k) (λ z. i p ⊗ after_l (field p) (axis_of p r C) F h k z)
       unfolding after_l
-      odd_pass e = rotated_pass false e (subst (Pass p r C alternating (pack_alt (residues p) C (λ l. i p ⊗ F h k l))) (λ j s. dft_mul (field_ring S) (2 * C) (root_of p r (2 * C)) (i p) (F h k) s j) (alternating_pass (λ l. i p ⊗ F h k l) (f.p212121_odd F o h k lh lk e)))
+      odd_pass e = rotated_pass false e (subst (λ (X : ℕ → Value p). Pass p r C alternating (pack_alt (residues p) C X) (λ z. i p ⊗ dft (field p) (2 * C) (root_of p r (2 * C)) (F h k) z)) (λ j l. imag_times (ring_of S.is_prime) (F h k l) j) (subst (Pass p r C alternating (pack_alt (residues p) C (λ l. i p ⊗ F h k l))) (λ j s. dft_mul (field_ring S) (2 * C) (root_of p r (2 * C)) (i p) (F h k) s j) (alternating_pass (λ l. i p ⊗ F h k l) (f.p212121_odd F o h k lh lk e))))
 
     h_pass : (T : Cell (Value p)) (k z : ℕ) → Pass p r A plain (λ h. T h k z) (λ x. after_h (field p) (axis_of p r A) T x k z)
     unfolding after_h pack_before pack_after

@@ -275,4 +275,7 @@ pub record EveryPrime : Type 0 where
   pub cells : OfCells CellFacts
   pub sums : OfCells SumFacts
   pub passes : OfCells PassFacts
-  pub volumes : OfCells PackFacts
+
+-- and their packed volumes
+abbrev pub EveryVolume : Type 0
+EveryVolume = OfCells PackFacts

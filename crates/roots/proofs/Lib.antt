@@ -1,4 +1,5 @@
 -- The laws of the root and of the tables of its powers, that the transforms cite.
+mod Inverses
 pub mod Roots
 pub mod Tables
 pub mod RootNegated

@@ -15,6 +15,7 @@ use Rattle.prime_shape.proofs.TrialDivision.{prime_86399, prime_302399}
 use Rattle.prime_shape.proofs.Orders.{suits_by}
 use Rattle.prime_shape.proofs.Shapes as Shapes
 use Rattle.roots.specs.Root.{choice, root}
+use Rattle.roots.proofs.Inverses.{first_inverse}
 use Rattle.numbers.proofs.Primes.{prime_next, by_choice}
 use Rattle.numbers.proofs.Values.{value_path}
 
@@ -28,7 +29,7 @@ differ n k t e = T_not (eqb n k) t (subst T (sym (eq-eqb n k e)) tt)
 
 first_candidate : Candidate (prime 1) (exponent 1) (choice 1) (root 1)
 unfolding prime exponent choice root residue residues gauss Gauss.imag pow
-first_candidate = record { inverse = value 1 14473 56576; inverts = by_numbers refl refl; power = by_numbers refl refl }
+first_candidate = record { inverse = first_inverse; inverts = by_numbers refl refl; power = by_numbers refl refl }
 
 first_suits : Suits (prime 1) (root 1)
 unfolding prime root residue residues gauss Gauss.imag pow

@@ -12,7 +12,7 @@ use Rattle.algebra.specs.lines.Kinds.{unit, pack_by, Kind.alternating, pack_befo
 use Rattle.algebra.specs.cells.Cell.{J, Inside, Group, P1, P2₁, Pm, Pa, P2₁2₁2₁, neg_i, span, planes, Cell, at}
 use Rattle.algebra.specs.cells.CellPlaces.{Stored}
 use Rattle.algebra.specs.cells.CellSteps.{Lawful}
-use Rattle.algebra.specs.cells.CellPack.{even, part_of, of_part, pack_alt, unpack_alt, rotated, times_i, over_i, pack_factors, unpack, PackedIn, FactorVolume}
+use Rattle.algebra.specs.cells.CellPack.{even, part_of, of_part, pack_alt, unpack_alt, times_i, over_i, pack_factors, unpack, PackedIn, FactorVolume}
 use Rattle.algebra.proofs.ring.Paths.{pair}
 use Rattle.algebra.proofs.ring.Bool.{split}
 use Rattle.algebra.proofs.ring.Solver.{ring, quote}
@@ -54,14 +54,23 @@ module _ {K : Type 0} {𝓚 : Ops K} (𝓡 : CRing 𝓚) where
 
   -- i and -i undo each other
   pub over_times : (b : Bool) (v : V2) → over_i 𝓚 b (times_i 𝓚 b v) ≡ v
-  unfolding gauss imag
-  over_times false v = refl
-  over_times true v = pair (ring 𝓡 (v.0 ∷ v.1 ∷ []) (search quote depth 40 fits 9999) refl) (ring 𝓡 (v.0 ∷ v.1 ∷ []) (search quote depth 40 fits 9999) refl)
+  unfolding over_i times_i
+  over_times true v = refl
+  over_times false v = pair refl (ring 𝓡 (v.1 ∷ []) (search quote depth 40 fits 9999) refl)
 
   pub times_over : (b : Bool) (v : V2) → times_i 𝓚 b (over_i 𝓚 b v) ≡ v
-  unfolding gauss imag
-  times_over false v = refl
-  times_over true v = pair (ring 𝓡 (v.0 ∷ v.1 ∷ []) (search quote depth 40 fits 9999) refl) (ring 𝓡 (v.0 ∷ v.1 ∷ []) (search quote depth 40 fits 9999) refl)
+  unfolding over_i times_i
+  times_over true v = refl
+  times_over false v = pair (ring 𝓡 (v.0 ∷ []) (search quote depth 40 fits 9999) refl) refl
+
+  -- they are the products by i and by -i
+  pub imag_times : (v : V2) → imag 𝓚 ⊗ v ≡ times_i 𝓚 false v
+  unfolding times_i gauss imag
+  imag_times v = pair (ring 𝓡 (v.0 ∷ v.1 ∷ []) (search quote depth 40 fits 9999) refl) (ring 𝓡 (v.0 ∷ v.1 ∷ []) (search quote depth 40 fits 9999) refl)
+
+  pub imag_over : (v : V2) → (⊖ imag 𝓚) ⊗ v ≡ over_i 𝓚 false v
+  unfolding over_i gauss imag
+  imag_over v = pair (ring 𝓡 (v.0 ∷ v.1 ∷ []) (search quote depth 40 fits 9999) refl) (ring 𝓡 (v.0 ∷ v.1 ∷ []) (search quote depth 40 fits 9999) refl)
 
   -- an alternating line
   abbrev Alt : ℕ → (ℕ → V2) → Type 0
@@ -149,13 +158,13 @@ module _ {K : Type 0} {𝓚 : Ops K} (𝓡 : CRing 𝓚) where
           last zero e = absurd (omega arith)
           last (suc d) e = end d e
 
-    pub rotated_sign : (b : Bool) (s v : V2) → times_i 𝓚 (not b) (sign_of b ⊗ (s ⊗ conj 𝓚 v)) ≡ s ⊗ conj 𝓚 (times_i 𝓚 (not b) v)
-    unfolding gauss conj imag
+    pub rotated_sign : (b : Bool) (s v : V2) → times_i 𝓚 b (sign_of b ⊗ (s ⊗ conj 𝓚 v)) ≡ s ⊗ conj 𝓚 (times_i 𝓚 b v)
+    unfolding times_i gauss conj
     rotated_sign true s v = pair (ring 𝓡 (s.0 ∷ s.1 ∷ v.0 ∷ v.1 ∷ []) (search quote depth 40 fits 9999) refl) (ring 𝓡 (s.0 ∷ s.1 ∷ v.0 ∷ v.1 ∷ []) (search quote depth 40 fits 9999) refl)
     rotated_sign false s v = pair (ring 𝓡 (s.0 ∷ s.1 ∷ v.0 ∷ v.1 ∷ []) (search quote depth 40 fits 9999) refl) (ring 𝓡 (s.0 ∷ s.1 ∷ v.0 ∷ v.1 ∷ []) (search quote depth 40 fits 9999) refl)
 
-    pub rotated_back : (b : Bool) (s v : V2) → over_i 𝓚 (not b) (s ⊗ conj 𝓚 v) ≡ sign_of b ⊗ (s ⊗ conj 𝓚 (over_i 𝓚 (not b) v))
-    rotated_back b s v = ap (λ y. over_i 𝓚 (not b) (s ⊗ conj 𝓚 y)) (inv (times_over (not b) v)) ∙ ap (over_i 𝓚 (not b)) (inv (rotated_sign b s (over_i 𝓚 (not b) v))) ∙ over_times (not b) _
+    pub rotated_back : (b : Bool) (s v : V2) → over_i 𝓚 b (s ⊗ conj 𝓚 v) ≡ sign_of b ⊗ (s ⊗ conj 𝓚 (over_i 𝓚 b v))
+    rotated_back b s v = ap (λ y. over_i 𝓚 b (s ⊗ conj 𝓚 y)) (inv (times_over b v)) ∙ ap (over_i 𝓚 b) (inv (rotated_sign b s (over_i 𝓚 b v))) ∙ over_times b _
 
     -- the packed factors of a cell of the group
     module _ (a : J) (long : Positive a) where
@@ -168,8 +177,8 @@ module _ {K : Type 0} {𝓚 : Ops K} (𝓡 : CRing 𝓚) where
       pub alt_1 : (F : Cell (K × K)) → Lawful (gauss 𝓚) (conj 𝓚) a P2₁ F → (h k : ℕ) → h < 2 * a.0 → k < 2 * a.1 → Alt a.2 (λ l. F h k l)
       alt_1 F o h k ha kb l lc = line_P2₁ (gauss_ring 𝓡) (gauss_star 𝓡) a F o h k l ha kb lc
 
-      pub alt_4 : (F : Cell (K × K)) → Lawful (gauss 𝓚) (conj 𝓚) a P2₁2₁2₁ F → (h k : ℕ) → h < 2 * a.0 → k < 2 * a.1 → Alt a.2 (λ l. times_i 𝓚 (rotated P2₁2₁2₁ h) (F h k l))
-      alt_4 F o h k ha kb l lc = ap (times_i 𝓚 (rotated P2₁2₁2₁ h)) (line_4 (gauss_ring 𝓡) (gauss_star 𝓡) a F o h k l ha kb lc ∙ ap (λ y. y ⊗ (pow (gauss 𝓚) (⊖ 𝟙) l ⊗ conj 𝓚 (F h k l))) (pow_even h)) ∙ rotated_sign (even h) (pow (gauss 𝓚) (⊖ 𝟙) l) (F h k l)
+      pub alt_4 : (F : Cell (K × K)) → Lawful (gauss 𝓚) (conj 𝓚) a P2₁2₁2₁ F → (h k : ℕ) → h < 2 * a.0 → k < 2 * a.1 → Alt a.2 (λ l. times_i 𝓚 (even h) (F h k l))
+      alt_4 F o h k ha kb l lc = ap (times_i 𝓚 (even h)) (line_4 (gauss_ring 𝓡) (gauss_star 𝓡) a F o h k l ha kb lc ∙ ap (λ y. y ⊗ (pow (gauss 𝓚) (⊖ 𝟙) l ⊗ conj 𝓚 (F h k l))) (pow_even h)) ∙ rotated_sign (even h) (pow (gauss 𝓚) (⊖ 𝟙) l) (F h k l)
 
       pub pack_iff : (g : Group) (F : Cell (K × K)) (B : FactorVolume K) → Lawful (gauss 𝓚) (conj 𝓚) a g F → PackedIn 𝓚 g a F B ↔ Holds g F B
       unfolding pack_factors unpack span planes
@@ -181,6 +190,6 @@ module _ {K : Type 0} {𝓚 : Ops K} (𝓡 : CRing 𝓚) where
       pack_iff Pm F B o = (λ e j n s. e j.2 j.0 j.1 s.1 n.0 s.0, λ f w h k wc ha kb. f (h, k, w) (ha, low k kb, omega (arith, long.2)) (kb, wc))
       pack_iff Pa F B o = (λ e j n s. e j.2 j.0 j.1 s.1 n.0 s.0, λ f w h k wc ha kb. f (h, k, w) (ha, low k kb, omega (arith, long.2)) (kb, wc))
       pack_iff P2₁2₁2₁ F B o = (
-        λ e j n s. inv (over_times (rotated P2₁2₁2₁ j.0) _) ∙ ap (over_i 𝓚 (rotated P2₁2₁2₁ j.0)) (down a.2 long.2 (λ l. times_i 𝓚 (rotated P2₁2₁2₁ j.0) (F j.0 j.1 l)) (λ w. B w j.0 j.1) (alt_4 F o j.0 j.1 n.0 (low j.1 s.0)) (λ w wc. e w j.0 j.1 wc n.0 s.0) j.2 s.1),
-        λ f w h k wc ha kb. up a.2 long.2 (λ l. times_i 𝓚 (rotated P2₁2₁2₁ h) (F h k l)) (λ w. B w h k) (alt_4 F o h k ha (low k kb)) (λ l lc. ap (times_i 𝓚 (rotated P2₁2₁2₁ h)) (f (h, k, l) (ha, low k kb, omega (arith, long.2)) (kb, lc)) ∙ times_over (rotated P2₁2₁2₁ h) _) w wc,
+        λ e j n s. inv (over_times (even j.0) _) ∙ ap (over_i 𝓚 (even j.0)) (down a.2 long.2 (λ l. times_i 𝓚 (even j.0) (F j.0 j.1 l)) (λ w. B w j.0 j.1) (alt_4 F o j.0 j.1 n.0 (low j.1 s.0)) (λ w wc. e w j.0 j.1 wc n.0 s.0) j.2 s.1),
+        λ f w h k wc ha kb. up a.2 long.2 (λ l. times_i 𝓚 (even h) (F h k l)) (λ w. B w h k) (alt_4 F o h k ha (low k kb)) (λ l lc. ap (times_i 𝓚 (even h)) (f (h, k, l) (ha, low k kb, omega (arith, long.2)) (kb, lc)) ∙ times_over (even h) _) w wc,
       )

@@ -13,7 +13,7 @@ use Rattle.algebra.specs.orbits.OrbitLaws.{AgreesWithItself, put_all}
 use Rattle.algebra.specs.cells.Cell.{J, Inside, Group, P1, P2₁, Pm, Pa, P2₁2₁2₁, full, neg_i, flip, image_of, sgn, star, same_j, span, Cell, at, factor_acts, stored_t}
 use Rattle.algebra.specs.cells.CellPlaces.{line_sym}
 use Rattle.algebra.specs.cells.CellSteps.{Lawful}
-use Rattle.algebra.specs.cells.CellPack.{even, rotated, part_of, of_part, unpack_alt, times_i, over_i, unpack, upd, put_alt, put_factor, PackedIn, FactorVolume}
+use Rattle.algebra.specs.cells.CellPack.{even, part_of, of_part, unpack_alt, times_i, over_i, unpack, upd, put_alt, put_factor, PackedIn, FactorVolume}
 use Rattle.algebra.proofs.ring.Paths.{triple}
 use Rattle.algebra.proofs.ring.Bool.{split}
 use Rattle.algebra.proofs.ring.GaussRing.{gauss_ring, gauss_star}
@@ -117,11 +117,11 @@ module _ {K : Type 0} {𝓚 : Ops K} (𝓡 : CRing 𝓚) (half : K) (half_two : 
         𝓕 : CRing (gauss 𝓚)
         𝓕 = gauss_ring 𝓡
 
-    end_4 : (j : J) (v : V2) → AgreesWithItself (factor_acts (gauss 𝓚) (conj 𝓚) a) (full P2₁2₁2₁) j v → neg_i a.2 j.2 ≡ j.2 → times_i 𝓚 (rotated P2₁2₁2₁ j.0) v ≡ of_part 𝓚 (even j.2) (part_of 𝓚 (even j.2) (times_i 𝓚 (rotated P2₁2₁2₁ j.0) v))
+    end_4 : (j : J) (v : V2) → AgreesWithItself (factor_acts (gauss 𝓚) (conj 𝓚) a) (full P2₁2₁2₁) j v → neg_i a.2 j.2 ≡ j.2 → times_i 𝓚 (even j.0) v ≡ of_part 𝓚 (even j.2) (part_of 𝓚 (even j.2) (times_i 𝓚 (even j.0) v))
     unfolding factor_acts image_of flip sgn star
     end_4 j v c e = self_sign 𝓡 half half_two (even j.2) _
-        (ap (times_i 𝓚 (rotated P2₁2₁2₁ j.0)) (inv (c (line_sym P2₁2₁2₁) (line_mem P2₁2₁2₁) (triple refl refl e)) ∙ implied_out (gauss_ring 𝓡) (gauss_star 𝓡) true false false true true false true j v ∙ ap₂ ◌⊗◌ (pow_even 𝓡 j.0) (𝓕.one_mul _))
-        ∙ rotated_sign 𝓡 half half_two (even j.0) _ v ∙ ap (λ y. y ⊗ conj 𝓚 (times_i 𝓚 (rotated P2₁2₁2₁ j.0) v)) (pow_even 𝓡 j.2))
+        (ap (times_i 𝓚 (even j.0)) (inv (c (line_sym P2₁2₁2₁) (line_mem P2₁2₁2₁) (triple refl refl e)) ∙ implied_out (gauss_ring 𝓡) (gauss_star 𝓡) true false false true true false true j v ∙ ap₂ ◌⊗◌ (pow_even 𝓡 j.0) (𝓕.one_mul _))
+        ∙ rotated_sign 𝓡 half half_two (even j.0) _ v ∙ ap (λ y. y ⊗ conj 𝓚 (times_i 𝓚 (even j.0) v)) (pow_even 𝓡 j.2))
       where
         𝓕 : CRing (gauss 𝓚)
         𝓕 = gauss_ring 𝓡
@@ -143,9 +143,9 @@ module _ {K : Type 0} {𝓚 : Ops K} (𝓡 : CRing 𝓚) (half : K) (half_two : 
     get_same Pm B j v n s c = upd_same B j.2 j.0 j.1 v
     get_same Pa B j v n s c = upd_same B j.2 j.0 j.1 v
     get_same P2₁2₁2₁ B j v n s c =
-        let u = times_i 𝓚 (rotated P2₁2₁2₁ j.0) v in
-        ap (over_i 𝓚 (rotated P2₁2₁2₁ j.0)) (alt_same a.2 j.2 j.0 j.1 B u (λ e. subst (λ b. u ≡ of_part 𝓚 b (part_of 𝓚 b u)) (even_0 j.2 e) (end_4 j v c (neg_0 j.2 e))) (λ e. subst (λ y. u ≡ of_part 𝓚 (even y) (part_of 𝓚 (even y) u)) e (end_4 j v c (neg_c_lem j.2 e))) (pos a.2 j.2 ((stored_iff P2₁2₁2₁ a j).0 s).1))
-        ∙ over_times 𝓡 (rotated P2₁2₁2₁ j.0) v
+        let u = times_i 𝓚 (even j.0) v in
+        ap (over_i 𝓚 (even j.0)) (alt_same a.2 j.2 j.0 j.1 B u (λ e. subst (λ b. u ≡ of_part 𝓚 b (part_of 𝓚 b u)) (even_0 j.2 e) (end_4 j v c (neg_0 j.2 e))) (λ e. subst (λ y. u ≡ of_part 𝓚 (even y) (part_of 𝓚 (even y) u)) e (end_4 j v c (neg_c_lem j.2 e))) (pos a.2 j.2 ((stored_iff P2₁2₁2₁ a j).0 s).1))
+        ∙ over_times 𝓡 (even j.0) v
 
     turn : (j i : J) → j ≢ i → ◌≡◌ {A = J} (j.2, j.0, j.1) (i.2, i.0, i.1) → ⊥
     turn j i n q = n (triple (ap (λ x. x.1) q) (ap (λ x. x.2) q) (ap (λ x. x.0) q))
@@ -156,7 +156,7 @@ module _ {K : Type 0} {𝓚 : Ops K} (𝓡 : CRing 𝓚) (half : K) (half_two : 
     get_other P2₁ B j i v n s m t d = alt_other a.2 j.2 j.0 j.1 i.2 i.0 i.1 B v d (pos a.2 j.2 ((stored_iff P2₁ a j).0 s).1) (pos a.2 i.2 ((stored_iff P2₁ a i).0 t).1)
     get_other Pm B j i v n s m t d = upd_other B j.2 j.0 j.1 v i.2 i.0 i.1 (turn j i d)
     get_other Pa B j i v n s m t d = upd_other B j.2 j.0 j.1 v i.2 i.0 i.1 (turn j i d)
-    get_other P2₁2₁2₁ B j i v n s m t d = ap (over_i 𝓚 (rotated P2₁2₁2₁ i.0)) (alt_other a.2 j.2 j.0 j.1 i.2 i.0 i.1 B (times_i 𝓚 (rotated P2₁2₁2₁ j.0) v) d (pos a.2 j.2 ((stored_iff P2₁2₁2₁ a j).0 s).1) (pos a.2 i.2 ((stored_iff P2₁2₁2₁ a i).0 t).1))
+    get_other P2₁2₁2₁ B j i v n s m t d = ap (over_i 𝓚 (even i.0)) (alt_other a.2 j.2 j.0 j.1 i.2 i.0 i.1 B (times_i 𝓚 (even j.0) v) d (pos a.2 j.2 ((stored_iff P2₁2₁2₁ a j).0 s).1) (pos a.2 i.2 ((stored_iff P2₁2₁2₁ a i).0 t).1))
 
     -- the loop over the operations leaves the packed factors of the recorded cell
     pub record_packed : (g : Group) (F : Cell (K × K)) (B : FactorVolume K) (j : J) (v : V2) → Lawful (gauss 𝓚) (conj 𝓚) a g F → PackedIn 𝓚 g a F B → Inside a j → AgreesWithItself (factor_acts (gauss 𝓚) (conj 𝓚) a) (full g) j v →

@@ -1,6 +1,6 @@
 -- The packed factors (the paper's box) as pairs of numbers: each line along l packed by its kind.
 use Rattle.std.specs.Prelude.{Bool, true, false, not, cond, ◌≡◌, ℕ, zero, suc, ◌*◌, ◌≤◌, ◌<◌, eqb}
-use Rattle.algebra.specs.ring.Ring.{Ops, gauss, imag}
+use Rattle.algebra.specs.ring.Ring.{Ops}
 use Rattle.algebra.specs.cells.Cell.{J, Cell, Group, P1, P2₁, Pm, Pa, P2₁2₁2₁, same_j, planes}
 
 -- packed factors: the pair w of (h, k)
@@ -11,17 +11,10 @@ unfoldable pub even : ℕ → Bool
 even zero = true
 even (suc n) = not (even n)
 
--- The line along l at h is stored times i: an odd h's line of P2₁2₁2₁ is alternating only so.
-abbrev pub rotated : Group → ℕ → Bool
-rotated P1 h = false
-rotated P2₁ h = false
-rotated Pm h = false
-rotated Pa h = false
-rotated P2₁2₁2₁ h = not (even h)
-
 module _ {K : Type 0} (𝓚 : Ops K) where
-  open 𝓚 use {zer as 𝟘}
+  open 𝓚 use {neg as ⊖◌, zer as 𝟘}
 
+  infix 75 ⊖◌
   -- the part of X(A) that can differ from 0: the real one for even A
   abbrev pub part_of : Bool → K × K → K
   part_of true v = v.0
@@ -40,14 +33,14 @@ module _ {K : Type 0} (𝓚 : Ops K) where
   unpack_alt c pairs zero = ((pairs 0).0, 𝟘)
   unpack_alt c pairs (suc l) = cond (eqb (suc l) c) (of_part (even c) (pairs 0).1) (pairs (suc l))
 
-  -- a value times i and over i where the line is rotated, else the value
-  abbrev pub times_i : Bool → K × K → K × K
-  times_i false v = v
-  times_i true v = (gauss 𝓚).mul (imag 𝓚) v
+  -- an odd h's line of P2₁2₁2₁ is stored times i
+  unfoldable pub times_i : Bool → K × K → K × K
+  times_i true v = v
+  times_i false v = (⊖ v.1, v.0)
 
-  abbrev pub over_i : Bool → K × K → K × K
-  over_i false v = v
-  over_i true v = (gauss 𝓚).mul ((gauss 𝓚).neg (imag 𝓚)) v
+  unfoldable pub over_i : Bool → K × K → K × K
+  over_i true v = v
+  over_i false v = (v.1, ⊖ v.0)
 
   -- the packed factors of a cell, the pair w of (h, k); and the value that a volume holds at a stored place
   unfoldable pub pack_factors : Group → J → Cell (K × K) → FactorVolume K
@@ -55,14 +48,14 @@ module _ {K : Type 0} (𝓚 : Ops K) where
   pack_factors P2₁ a F w h k = pack_alt a.2 (λ l. F h k l) w
   pack_factors Pm a F w h k = F h k w
   pack_factors Pa a F w h k = F h k w
-  pack_factors P2₁2₁2₁ a F w h k = pack_alt a.2 (λ l. times_i (rotated P2₁2₁2₁ h) (F h k l)) w
+  pack_factors P2₁2₁2₁ a F w h k = pack_alt a.2 (λ l. times_i (even h) (F h k l)) w
 
   unfoldable pub unpack : Group → J → FactorVolume K → J → K × K
   unpack P1 a B j = B j.2 j.0 j.1
   unpack P2₁ a B j = unpack_alt a.2 (λ w. B w j.0 j.1) j.2
   unpack Pm a B j = B j.2 j.0 j.1
   unpack Pa a B j = B j.2 j.0 j.1
-  unpack P2₁2₁2₁ a B j = over_i (rotated P2₁2₁2₁ j.0) (unpack_alt a.2 (λ w. B w j.0 j.1) j.2)
+  unpack P2₁2₁2₁ a B j = over_i (even j.0) (unpack_alt a.2 (λ w. B w j.0 j.1) j.2)
 
   -- B holds the packed factors of the cell F
   abbrev pub PackedIn : Group → J → Cell (K × K) → FactorVolume K → Type 0
@@ -85,4 +78,4 @@ module _ {K : Type 0} (𝓚 : Ops K) where
   put_factor P2₁ a B j v = put_alt a.2 B j.0 j.1 j.2 v
   put_factor Pm a B j v = upd B j.2 j.0 j.1 v
   put_factor Pa a B j v = upd B j.2 j.0 j.1 v
-  put_factor P2₁2₁2₁ a B j v = put_alt a.2 B j.0 j.1 j.2 (times_i (rotated P2₁2₁2₁ j.0) v)
+  put_factor P2₁2₁2₁ a B j v = put_alt a.2 B j.0 j.1 j.2 (times_i (even j.0) v)

@@ -1,6 +1,6 @@
 -- What the transform makes of a packed line that keeps the rule of its kind: the packed transform of the whole line, and back. And the rule that each line along l
 -- of a cell of a group keeps.
-use mathlib.Core.Path.{◌≡◌, refl, ◌∙◌, ap}
+use mathlib.Core.Path.{◌≡◌, refl, sym, ◌∙◌, ap, subst}
 use mathlib.Core.Logic.{◌⊎◌, inl, inr}
 use mathlib.Core.Bool.{Bool, true, false, cond}
 use Prim.Native.Nat.{ℕ, suc, ◌+◌, ◌*◌, ◌<◌, ◌≤◌}
@@ -25,6 +25,7 @@ use Rattle.numbers.proofs.Values.{field_ring, field_star}
 use Rattle.numbers.proofs.Parts.{half_residue}
 use Rattle.line.proofs.kinds.Reading.{forward_cong, back_cong}
 use Rattle.cell.specs.Volume.{line_kind, rotated, times_i, first_pair, layers}
+use Rattle.cell.proofs.RotatedLines.{times_is}
 
 module _ {R : Type 0} {𝓞 : Ops R} {conj : R → R} {i : R} (𝓡 : CRing 𝓞) (𝓢 : Star 𝓞 conj i) {half : R} {axis : Axis R} {tau : ℕ → R} (𝓐 : AxisLaws 𝓞 conj i half axis tau) where
   open 𝓞 use {mul as ◌⊗◌}
@@ -106,4 +107,4 @@ module _ (a : J) where
   line_rule Pm long m F o h k lh lk = λ l ll. line_Pm (field_ring m) (field_star m) a F o h k l lh lk ll
   line_rule Pa long m F o h k lh lk = mirror_rule m F o h k lh lk (even h) refl
   line_rule P2₁2₁2₁ long m F o h k lh lk =
-      alt_4 (res_ring m) (half m) (half_residue m) a long F o h k lh lk
+      subst (λ (X : ℕ → Value m). RuleBefore (field m) (conj m) (i m) (real m (half m)) a.2 alternating X) (λ i l. sym (times_is m (even h) (F h k l)) i) (alt_4 (res_ring m) (half m) (half_residue m) a long F o h k lh lk)

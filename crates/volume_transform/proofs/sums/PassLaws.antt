@@ -36,8 +36,7 @@ use Rattle.slices.specs.Sweep.{Layout, sweep, on_lists}
 use Rattle.slices.proofs.Pairs.{at_tab}
 use Rattle.cell.specs.Volume.{line_kind, rotated, times_i, over_i, first_pair, layers, rows, columns, volume_of, packed, pack_factors, map_pair, pack_map, axis, map_of, factors_of}
 use Rattle.cell.specs.Exactly.{RealMap, ObeysGroup}
-use Rattle.algebra.proofs.cells.CellPack.{over_times}
-use Rattle.cell.proofs.RotatedLines.{over_zero}
+use Rattle.cell.proofs.RotatedLines.{over_times, over_zero}
 use Rattle.cell.specs.Rows.{packed_row, unpacked_row}
 use Rattle.volume_transform.specs.Axes.{forward_values, inverse_values, forward_row, inverse_row, along_l, along_h, along_k, turned_l, turned_h, turned_k}
 use Rattle.cell.proofs.VolumeLayout.{volume_cong, by_row, map_pair_low, map_pair_end}
@@ -109,7 +108,7 @@ module _ (g : Group) (a : J) (m : ℕ) {tx ty tz : ℕ → Value m}
     after_is h k s = times_dft (rotated g h) (F h k) s
 
     over_after : (h k s : ℕ) → over_i m (rotated g h) (after h k s) ≡ L F h k s
-    over_after h k s = ap (over_i m (rotated g h)) (after_is h k s) ∙ over_times (res_ring m) (rotated g h) _
+    over_after h k s = ap (over_i m (rotated g h)) (after_is h k s) ∙ over_times m (rotated g h) _
 
     abbrev boxed : ℕ → ℕ → ℕ → Value m
     boxed w h k = packed g a m (line_kind g h) (line_of h k) w

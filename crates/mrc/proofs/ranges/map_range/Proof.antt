@@ -38,8 +38,8 @@ plane_range-requires c κs =
     let p = c.requires in
     (p.0, p.1, subst (λ (n : ℕ). c.loop-z.z < n) c.layer_count-planes.ensures c.loop-z-test.true)
 
-range_of_both-range-requires : tie.Need-range_of_both-range-requires invariant-loop-z decreases-loop-z
-range_of_both-range-requires c κs = tt
+joined-range-requires : tie.Need-joined-range-requires invariant-loop-z decreases-loop-z
+joined-range-requires c κs = tt
 
 overflow_add-z : tie.Need-overflow_add-z invariant-loop-z decreases-loop-z
 overflow_add-z c = omega arith
@@ -50,7 +50,7 @@ loop-z-smaller c = omega arith
 loop-z-preserved : tie.Need-loop-z-preserved invariant-loop-z decreases-loop-z
 loop-z-preserved c =
     let a = c.args in
-    (omega arith, omega arith, spans_next c.loop-z.z (plane a.cell a.map.now) c.loop-z.invariant.2 c.plane_range.ensures c.range_of_both-range.ensures)
+    (omega arith, omega arith, spans_next c.loop-z.z (plane a.cell a.map.now) c.loop-z.invariant.2 c.plane_range.ensures c.joined-range.ensures)
 
 returns : tie.Need-returns invariant-loop-z decreases-loop-z
 unfolding of_stored
@@ -63,4 +63,4 @@ returns c =
 pub map_range_spec : {M : Type 1} → statement M
 map_range_spec =
     tie.close
-    (tie.spec invariant-loop-z decreases-loop-z layer_count-planes-requires plane_range-range-requires loop-z-init plane_range-requires range_of_both-range-requires overflow_add-z loop-z-smaller loop-z-preserved returns)
+    (tie.spec invariant-loop-z decreases-loop-z layer_count-planes-requires plane_range-range-requires loop-z-init plane_range-requires joined-range-requires overflow_add-z loop-z-smaller loop-z-preserved returns)

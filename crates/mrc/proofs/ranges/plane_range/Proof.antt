@@ -29,8 +29,8 @@ loop-x-init c =
 stored_row-requires : tie.Need-stored_row-requires invariant-loop-x decreases-loop-x
 stored_row-requires c κs = let p = c.requires in (p.0, p.1, p.2, c.loop-x-test.true)
 
-range_of_both-range-requires : tie.Need-range_of_both-range-requires invariant-loop-x decreases-loop-x
-range_of_both-range-requires c κs = tt
+joined-range-requires : tie.Need-joined-range-requires invariant-loop-x decreases-loop-x
+joined-range-requires c κs = tt
 
 overflow_add-x : tie.Need-overflow_add-x invariant-loop-x decreases-loop-x
 overflow_add-x c = omega arith
@@ -41,7 +41,7 @@ loop-x-smaller c = omega arith
 loop-x-preserved : tie.Need-loop-x-preserved invariant-loop-x decreases-loop-x
 loop-x-preserved c =
     let a = c.args in
-    (omega arith, omega arith, spans_next c.loop-x.x (row a.cell a.map.now a.z) c.loop-x.invariant.2 c.stored_row.ensures c.range_of_both-range.ensures)
+    (omega arith, omega arith, spans_next c.loop-x.x (row a.cell a.map.now a.z) c.loop-x.invariant.2 c.stored_row.ensures c.joined-range.ensures)
 
 returns : tie.Need-returns invariant-loop-x decreases-loop-x
 returns c =
@@ -51,4 +51,4 @@ returns c =
 pub plane_range_spec : {M : Type 1} → statement M
 plane_range_spec =
     tie.close
-    (tie.spec invariant-loop-x decreases-loop-x stored_row-range-requires loop-x-init stored_row-requires range_of_both-range-requires overflow_add-x loop-x-smaller loop-x-preserved returns)
+    (tie.spec invariant-loop-x decreases-loop-x stored_row-range-requires loop-x-init stored_row-requires joined-range-requires overflow_add-x loop-x-smaller loop-x-preserved returns)

@@ -44,8 +44,8 @@ bounds-map-start-in-loop-y c = omega arith
 single-requires : tie.Need-single-requires invariant-loop-y decreases-loop-y
 single-requires c κs = tt
 
-range_of_both-range-requires : tie.Need-range_of_both-range-requires invariant-loop-y decreases-loop-y
-range_of_both-range-requires c κs = tt
+joined-range-requires : tie.Need-joined-range-requires invariant-loop-y decreases-loop-y
+joined-range-requires c κs = tt
 
 overflow_add-y : tie.Need-overflow_add-y invariant-loop-y decreases-loop-y
 overflow_add-y c = omega arith
@@ -60,7 +60,7 @@ loop-y-preserved c =
       omega arith,
       omega arith,
       spans_next y (number a.map.now a.start) c.loop-y.invariant.2
-          (spans_single a.map.now (a.start + y) (a.start + y) (omega arith) c.single-arg-in-loop-y-1.given c.single.ensures) c.range_of_both-range.ensures,
+          (spans_single a.map.now (a.start + y) (a.start + y) (omega arith) c.single-arg-in-loop-y-1.given c.single.ensures) c.joined-range.ensures,
     )
 
 returns : tie.Need-returns invariant-loop-y decreases-loop-y
@@ -71,4 +71,4 @@ returns c =
 pub row_range_spec : {M : Type 1} → statement M
 row_range_spec =
     tie.close
-    (tie.spec invariant-loop-y decreases-loop-y offset_bounds-map-start bounds-map-start single-range-requires loop-y-init overflow_add-start offset_bounds-map-start-in-loop-y bounds-map-start-in-loop-y single-requires range_of_both-range-requires overflow_add-y loop-y-smaller loop-y-preserved returns)
+    (tie.spec invariant-loop-y decreases-loop-y offset_bounds-map-start bounds-map-start single-range-requires loop-y-init overflow_add-start offset_bounds-map-start-in-loop-y bounds-map-start-in-loop-y single-requires joined-range-requires overflow_add-y loop-y-smaller loop-y-preserved returns)

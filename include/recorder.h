@@ -210,20 +210,29 @@ typedef struct { uint32_t number, lane; } recorder_next_answer;
 typedef struct { uint32_t number; recorder_scheduler scheduler; } recorder_scheduler_answer;
 typedef struct { uint32_t number, lane, finished; recorder_job job; recorder_scheduler scheduler; } recorder_turn_answer;
 
+/* The count of a volume's numbers; 0 where every opening is refused, because the group is above 4, a length above 2,880 or the volume
+   too large. */
+static inline size_t recorder_volume_length(uint32_t group, uint32_t n1, uint32_t n2, uint32_t n3)
+{
+    uint64_t planes = group == RECORDER_P1 ? n3 : group == RECORDER_PM || group == RECORDER_PA ? n3 / 2 + 1 : n3 / 2, numbers;
+    if (group > RECORDER_P212121 || n1 > RECORDER_LONGEST || n2 > RECORDER_LONGEST || n3 > RECORDER_LONGEST)
+        return 0;
+    numbers = planes * n1 * 2 * (n2 / 2 + 1);
+    return numbers > RECORDER_MOST_NUMBERS ? 0 : (size_t)numbers;
+}
+
 /* Whether a length is admitted, 1 or 0: an even divisor of 2,880. */
 static inline int recorder_admitted(uint32_t length)
 {
     return length != 0 && length % 2 == 0 && RECORDER_LONGEST % length == 0;
 }
 
-/* The count of a volume's numbers; 0 exactly where every opening of this group and these lengths is refused, with 8, 3 or 9. */
-static inline size_t recorder_volume_length(uint32_t group, uint32_t n1, uint32_t n2, uint32_t n3)
+/* The count of the numbers that an opening is lent; 0 exactly where every opening of this group and these lengths is refused, with 8, 3 or 9. */
+static inline size_t recorder_opening_length(uint32_t group, uint32_t n1, uint32_t n2, uint32_t n3)
 {
-    uint64_t planes = group == RECORDER_P1 ? n3 : group == RECORDER_PM || group == RECORDER_PA ? n3 / 2 + 1 : n3 / 2, numbers;
-    if (group > RECORDER_P212121 || !recorder_admitted(n1) || !recorder_admitted(n2) || !recorder_admitted(n3))
+    if (!recorder_admitted(n1) || !recorder_admitted(n2) || !recorder_admitted(n3))
         return 0;
-    numbers = planes * n1 * 2 * (n2 / 2 + 1);
-    return numbers > RECORDER_MOST_NUMBERS ? 0 : (size_t)numbers;
+    return recorder_volume_length(group, n1, n2, n3);
 }
 
 /* The count of a line's numbers by its kind and length; 0 where recorder_line refuses every line of them, with 1 or 3, and of kind 5 with length 2. */

@@ -34,7 +34,7 @@ int main(void)
             for (b = 0; b < LENGTHS; b += 3)
                 for (c = 0; c < LENGTHS; c++) {
                     n[0] = lengths[a], n[1] = lengths[b], n[2] = lengths[c];
-                    printf("volume %u %u %u %u %lu %u\n", group, n[0], n[1], n[2], (unsigned long)recorder_volume_length(group, n[0], n[1], n[2]),
+                    printf("volume %u %u %u %u %lu %u\n", group, n[0], n[1], n[2], (unsigned long)recorder_opening_length(group, n[0], n[1], n[2]),
                            opening(group, n));
                 }
     for (kind = 0; kind <= 7; kind++)

@@ -25,7 +25,7 @@ def planes(group: int, n3: int) -> int:
 
 
 def shape_of(group: int, lengths: Lengths) -> Tuple[int, int, int]:
-    """The shape of a volume as [z, x, y], with two numbers behind each row; zeros where recorder_volume_length of recorder.h is 0."""
+    """The shape of a volume as [z, x, y], with two numbers behind each row; zeros where recorder_opening_length of recorder.h is 0."""
     n1, n2, n3 = (checked("a length", length, c_uint32) for length in three("lengths", lengths))
     shape = planes(checked("group", group, c_uint32), n3), n1, 2 * (n2 // 2 + 1)
     possible = all(map(admitted, (n1, n2, n3))) and shape[0] * shape[1] * shape[2] <= MOST_NUMBERS

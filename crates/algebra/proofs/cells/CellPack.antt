@@ -158,13 +158,13 @@ module _ {K : Type 0} {𝓚 : Ops K} (𝓡 : CRing 𝓚) where
           last zero e = absurd (omega arith)
           last (suc d) e = end d e
 
-    pub rotated_sign : (b : Bool) (s v : V2) → times_i 𝓚 b (sign_of b ⊗ (s ⊗ conj 𝓚 v)) ≡ s ⊗ conj 𝓚 (times_i 𝓚 b v)
+    pub rotated : (b : Bool) (s v : V2) → times_i 𝓚 b (sign_of b ⊗ (s ⊗ conj 𝓚 v)) ≡ s ⊗ conj 𝓚 (times_i 𝓚 b v)
     unfolding times_i gauss conj
-    rotated_sign true s v = pair (ring 𝓡 (s.0 ∷ s.1 ∷ v.0 ∷ v.1 ∷ []) (search quote depth 40 fits 9999) refl) (ring 𝓡 (s.0 ∷ s.1 ∷ v.0 ∷ v.1 ∷ []) (search quote depth 40 fits 9999) refl)
-    rotated_sign false s v = pair (ring 𝓡 (s.0 ∷ s.1 ∷ v.0 ∷ v.1 ∷ []) (search quote depth 40 fits 9999) refl) (ring 𝓡 (s.0 ∷ s.1 ∷ v.0 ∷ v.1 ∷ []) (search quote depth 40 fits 9999) refl)
+    rotated true s v = pair (ring 𝓡 (s.0 ∷ s.1 ∷ v.0 ∷ v.1 ∷ []) (search quote depth 40 fits 9999) refl) (ring 𝓡 (s.0 ∷ s.1 ∷ v.0 ∷ v.1 ∷ []) (search quote depth 40 fits 9999) refl)
+    rotated false s v = pair (ring 𝓡 (s.0 ∷ s.1 ∷ v.0 ∷ v.1 ∷ []) (search quote depth 40 fits 9999) refl) (ring 𝓡 (s.0 ∷ s.1 ∷ v.0 ∷ v.1 ∷ []) (search quote depth 40 fits 9999) refl)
 
     pub rotated_back : (b : Bool) (s v : V2) → over_i 𝓚 b (s ⊗ conj 𝓚 v) ≡ sign_of b ⊗ (s ⊗ conj 𝓚 (over_i 𝓚 b v))
-    rotated_back b s v = ap (λ y. over_i 𝓚 b (s ⊗ conj 𝓚 y)) (inv (times_over b v)) ∙ ap (over_i 𝓚 b) (inv (rotated_sign b s (over_i 𝓚 b v))) ∙ over_times b _
+    rotated_back b s v = ap (λ y. over_i 𝓚 b (s ⊗ conj 𝓚 y)) (inv (times_over b v)) ∙ ap (over_i 𝓚 b) (inv (rotated b s (over_i 𝓚 b v))) ∙ over_times b _
 
     -- the packed factors of a cell of the group
     module _ (a : J) (long : Positive a) where
@@ -178,7 +178,7 @@ module _ {K : Type 0} {𝓚 : Ops K} (𝓡 : CRing 𝓚) where
       alt_1 F o h k ha kb l lc = line_P2₁ (gauss_ring 𝓡) (gauss_star 𝓡) a F o h k l ha kb lc
 
       pub alt_4 : (F : Cell (K × K)) → Lawful (gauss 𝓚) (conj 𝓚) a P2₁2₁2₁ F → (h k : ℕ) → h < 2 * a.0 → k < 2 * a.1 → Alt a.2 (λ l. times_i 𝓚 (even h) (F h k l))
-      alt_4 F o h k ha kb l lc = ap (times_i 𝓚 (even h)) (line_4 (gauss_ring 𝓡) (gauss_star 𝓡) a F o h k l ha kb lc ∙ ap (λ y. y ⊗ (pow (gauss 𝓚) (⊖ 𝟙) l ⊗ conj 𝓚 (F h k l))) (pow_even h)) ∙ rotated_sign (even h) (pow (gauss 𝓚) (⊖ 𝟙) l) (F h k l)
+      alt_4 F o h k ha kb l lc = ap (times_i 𝓚 (even h)) (line_4 (gauss_ring 𝓡) (gauss_star 𝓡) a F o h k l ha kb lc ∙ ap (λ y. y ⊗ (pow (gauss 𝓚) (⊖ 𝟙) l ⊗ conj 𝓚 (F h k l))) (pow_even h)) ∙ rotated (even h) (pow (gauss 𝓚) (⊖ 𝟙) l) (F h k l)
 
       pub pack_iff : (g : Group) (F : Cell (K × K)) (B : FactorVolume K) → Lawful (gauss 𝓚) (conj 𝓚) a g F → PackedIn 𝓚 g a F B ↔ Holds g F B
       unfolding pack_factors unpack span planes

@@ -21,7 +21,7 @@ use Rattle.algebra.proofs.cells.CellAxis.{neg_zero, neg_pos}
 use Rattle.algebra.proofs.cells.CellSym.{implied_out}
 use Rattle.algebra.proofs.cells.CellGroup.{factor_action, closed, line_mem, same_j_eq, same_j_refl}
 use Rattle.algebra.proofs.cells.CellTests.{Positive, stored_iff}
-use Rattle.algebra.proofs.cells.CellPack.{pow_even, self_sign, rotated_sign, over_times, pack_iff}
+use Rattle.algebra.proofs.cells.CellPack.{pow_even, self_sign, rotated, over_times, pack_iff}
 use Rattle.algebra.proofs.orbits.OrbitStore.{loop_records}
 use Rattle.algebra.proofs.orbits.Orbits.{record_obeys}
 
@@ -121,7 +121,7 @@ module _ {K : Type 0} {𝓚 : Ops K} (𝓡 : CRing 𝓚) (half : K) (half_two : 
     unfolding factor_acts image_of flip sgn star
     end_4 j v c e = self_sign 𝓡 half half_two (even j.2) _
         (ap (times_i 𝓚 (even j.0)) (inv (c (line_sym P2₁2₁2₁) (line_mem P2₁2₁2₁) (triple refl refl e)) ∙ implied_out (gauss_ring 𝓡) (gauss_star 𝓡) true false false true true false true j v ∙ ap₂ ◌⊗◌ (pow_even 𝓡 j.0) (𝓕.one_mul _))
-        ∙ rotated_sign 𝓡 half half_two (even j.0) _ v ∙ ap (λ y. y ⊗ conj 𝓚 (times_i 𝓚 (even j.0) v)) (pow_even 𝓡 j.2))
+        ∙ rotated 𝓡 half half_two (even j.0) _ v ∙ ap (λ y. y ⊗ conj 𝓚 (times_i 𝓚 (even j.0) v)) (pow_even 𝓡 j.2))
       where
         𝓕 : CRing (gauss 𝓚)
         𝓕 = gauss_ring 𝓡

@@ -81,7 +81,8 @@ module _ (g : Group) (a : J) where
     line_agrees v j = every (full g) (λ s. image_agrees v j s)
 
     unfoldable pub pair_is_zero : List ℕ → (w h k : ℕ) → Bool
-    pair_is_zero v w h k = eqb (get_or v (2 * pair_place g a w h k) 0) 0 && eqb (get_or v (2 * pair_place g a w h k + 1) 0) 0
+    pair_is_zero v w h k =
+        eqb (get_or v (2 * pair_place g a w h k) 0) 0 && eqb (get_or v (2 * pair_place g a w h k + 1) 0) 0
 
     -- the line (h, k) has the pairs 0 and A, or they are zero
     abbrev pub zero_ends : List ℕ → (h k : ℕ) → Bool

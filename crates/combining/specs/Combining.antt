@@ -29,7 +29,8 @@ abbrev pub maps_tests : (group : ℕ) (lengths : J) (v w : List ℕ) (room : ℕ
 maps_tests group n v w room =
     not (as_long group n v && (as_long group n w && eqb room (volume_length (group_of group) (half_lengths n)))) ⇒ 6 ∷
     not (all_below (prime 1) v && all_below (prime 2) w) ⇒ 7 ∷
-    not (consistent_map (group_of group) (half_lengths n) v && consistent_map (group_of group) (half_lengths n) w) ⇒ 14 ∷
+    not
+    (consistent_map (group_of group) (half_lengths n) v && consistent_map (group_of group) (half_lengths n) w) ⇒ 14 ∷
     []
 
 -- 25, 22, 27, 6, 7, 14, each over both jobs or volumes before the next. Behind 27 the group and the lengths of the

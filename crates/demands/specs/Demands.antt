@@ -14,15 +14,16 @@ use Rattle.cell.specs.Exactly.{FactorsConsistent, MapConsistent}
 use Rattle.job.specs.declared.Job.{Job}
 use Rattle.job.specs.declared.Reflection.{Reflection}
 use Rattle.job.specs.declared.GridPoint.{GridPoint}
-use Rattle.job.specs.Job.{Header, half_lengths, needed, map_held, factors_held, with_state, header_of, valid_job, group_in}
-use Rattle.job.specs.Job.{halves, within, index, position, opened, not_opened, OpenOutcome, own_tests, open_tests}
-use Rattle.job.specs.Job.{open_step, Said, done, density, refused, record_step, synthesis_step, analysis_step, point_step}
+use Rattle.job.specs.Job.{Header, half_lengths, needed, map_held, factors_held, with_state, header_of, valid_job}
+use Rattle.job.specs.Job.{group_in, halves, within, index, position, opened, not_opened, OpenOutcome, own_tests}
+use Rattle.job.specs.Job.{open_tests, open_step, Said, done, density, refused, record_step, synthesis_step}
+use Rattle.job.specs.Job.{analysis_step, point_step}
 use Rattle.job.specs.Job.{map_power_step, factor_power_step, factor, power}
 use Rattle.file_format.specs.declared.FileRecord.{FileRecord}
 use Rattle.refusals.specs.Refusals.{first}
 use Rattle.refusals.specs.Orders.{NoneOf}
-use Rattle.factor_file.specs.File.{index_of, index_in, count_at, records_in, shape_tests, file_step, modulus_in, header_in}
-use Rattle.factor_file.specs.File.{write_step}
+use Rattle.factor_file.specs.File.{index_of, index_in, count_at, records_in, shape_tests, file_step}
+use Rattle.factor_file.specs.File.{modulus_in, header_in, write_step}
 use Rattle.model.specs.Model.{Model, group, half, factor_of, density_of, signed_real, Call, model_volume, model_job}
 use Rattle.model.specs.Model.{factor_volume, map_volume, Beginning, begun, not_begun, recording, synthesis, analysis}
 use Rattle.model.specs.Model.{read_point, read_factor, read_map_power, read_factor_power, model_said, model_after}
@@ -95,7 +96,8 @@ model_end m [] = m
 model_end m (c ∷ l) = model_end (model_after m c) l
 
 abbrev pub model_ran : {μ : ℕ} → Model μ → List Call → Ran
-model_ran m l = record { answers = model_answers m l; job = model_job (model_end m l); volume = model_volume (model_end m l) }
+model_ran m l =
+    record { answers = model_answers m l; job = model_job (model_end m l); volume = model_volume (model_end m l) }
 
 -- ---- the records of a list of calls that were accepted, in their order
 

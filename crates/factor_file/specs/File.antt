@@ -5,12 +5,14 @@ use Rattle.std.specs.Prelude.{◌∷◌, ◌++◌}
 use Rattle.algebra.specs.Prelude.{ℕ, List, [], length, map, replicate, Bool, not, eqb, ltb}
 use Rattle.job.specs.declared.Job.{Job}
 use Rattle.job.specs.declared.Reflection.{Reflection}
-use Rattle.job.specs.Job.{half_lengths, opened, not_opened, OpenOutcome, index, own_tests, open_step, header_of, group_in}
-use Rattle.job.specs.Job.{halves, valid_job, map_held, fits}
+use Rattle.job.specs.Job.{half_lengths, opened, not_opened, OpenOutcome, index, own_tests, open_step, header_of}
+use Rattle.job.specs.Job.{group_in, halves, valid_job, map_held, fits}
 use Rattle.file_format.specs.declared.FileRecord.{FileRecord}
-pub use Rattle.file_format.specs.Format.{byte_at, after_list, list1_at, record_count, records_in, shape_tests, header_in}
+pub use Rattle.file_format.specs.Format.{byte_at, after_list, list1_at, record_count, records_in, shape_tests}
+pub use Rattle.file_format.specs.Format.{header_in}
 use Rattle.refusals.specs.Refusals.{first, accepted, Test, ◌⇒◌}
-use Rattle.algebra.specs.cells.Cell.{J, Group, full, image_of, at, factor_acts, every, some, same_orbit, lex_le, places_of}
+use Rattle.algebra.specs.cells.Cell.{J, Group, full, image_of, at, factor_acts, every, some}
+use Rattle.algebra.specs.cells.Cell.{same_orbit, lex_le, places_of}
 use Rattle.algebra.specs.cells.Cell as Tests
 use Rattle.numbers.specs.Value.{prime, Value, field, conj, value}
 use Rattle.cell.specs.Volume.{group_of, factors_in}

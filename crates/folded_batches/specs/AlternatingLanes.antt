@@ -1,5 +1,6 @@
 -- Alternating lines side by side, kind 3: what each pass over a batch leaves, lane by lane.
-use Rattle.std.specs.Prelude.{◌≡◌, Bool, cond, ◌≢◌, List, ℕ, zero, suc, ◌+◌, ◌*◌, ◌-◌, ◌/◌, ◌%◌, ◌<◌, ◌≤◌, eqb, leb, get_or, length}
+use Rattle.std.specs.Prelude.{◌≡◌, ◌≢◌, ◌+◌, ◌*◌, ◌-◌, ◌/◌, ◌%◌, ◌<◌, ◌≤◌}
+use Rattle.std.specs.Prelude.{Bool, cond, List, ℕ, zero, suc, eqb, leb, get_or, length}
 use Rattle.algebra.specs.ring.Ring.{sum}
 use Rattle.algebra.specs.lines.Kinds.{unit, Kind.alternating}
 use Rattle.algebra.specs.lines.Packings.{unfold_b3}
@@ -84,7 +85,8 @@ unfoldable pub cotangent : (m A : ℕ) (tan : List ℕ) → ℕ → Residue m
 cotangent m A tan zero = (ring m).zer
 cotangent m A tan (suc s) =
     (ring m).mul (half m)
-    ((ring m).add (res m (get_or tan (stride A * (A - suc s)) 0)) ((ring m).neg (res m (get_or tan (stride A * suc s) 0))))
+    ((ring m).add (res m (get_or tan (stride A * (A - suc s)) 0))
+    ((ring m).neg (res m (get_or tan (stride A * suc s) 0))))
 
 unfoldable pub cosecant : (m A : ℕ) (tan : List ℕ) → ℕ → Residue m
 cosecant m A tan zero = (ring m).one

@@ -1,7 +1,7 @@
 -- One line: its transform, for the six kinds and both directions, by direct sums over the whole line of N = 2 A values;
--- what the call refuses, and what it answers and leaves for every input. `unfold_before` and `unfold_after` of algebra's
--- Kinds are the whole line of what is packed before and after the transform, `forward` and `inverse` the sums, packed
--- again.
+-- what the call refuses, and what it answers and leaves for every input. `unfold_before` and `unfold_after` of
+-- algebra's Kinds are the whole line of what is packed before and after the transform, `forward` and `inverse` the
+-- sums, packed again.
 use Rattle.std.specs.Prelude.{◌*◌, ◌/◌, ◌∷◌}
 use Rattle.algebra.specs.Prelude.{not, eqb, leb, ltb, ℕ, List, [], length, zero, suc}
 use Rattle.slices.specs.Pairs.{all_below, values_of, list_of}

@@ -179,6 +179,7 @@ model_feed {μ} cs m =
 unfoldable pub model_file : (μ : ℕ) → List ℕ → Beginning μ
 model_file μ file =
     accepted (first (shape_tests file))
-    (accepted (first (beginning_tests μ (header_in file) 0)) (model_feed (records_in file) (zero_model μ (header_in file)))
+    (accepted (first (beginning_tests μ (header_in file) 0))
+    (model_feed (records_in file) (zero_model μ (header_in file)))
     (λ n. not_begun n 0))
     (λ n. not_begun n 0)

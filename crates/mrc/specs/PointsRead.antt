@@ -12,7 +12,8 @@ use Rattle.mrc.specs.Mrc.{mrc_step}
 abbrev pub SameCell : UnitCell → (v w : List ℤ) → Type 0
 SameCell cell v w =
     (x y z : ℕ) → x < cell.n1 → y < cell.n2 → z < cell.n3 →
-    count_of (cell_group cell) (cell_halves cell) v (x, y, z) ≡ count_of (cell_group cell) (cell_halves cell) w (x, y, z)
+    count_of (cell_group cell) (cell_halves cell) v (x, y, z)
+    ≡ count_of (cell_group cell) (cell_halves cell) w (x, y, z)
 
 -- they give the same answer and the same bytes
 abbrev pub ReadsPointsAlone : Type 0

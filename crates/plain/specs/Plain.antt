@@ -2,7 +2,8 @@
 -- `butterflies`, for M lines at once. The line q of them has the points q, q + M, q + 2 M, .. of the whole line X. A is
 -- the product of the factors before, B the factor of this step, and A B M the length of the whole line. The inner sums
 -- are what the steps before have left.
-use Rattle.std.specs.Prelude.{◌≡◌, ℕ, zero, suc, ◌+◌, ◌*◌, ◌/◌, ◌%◌, ◌≤◌, ◌<◌, Bool, cond, List, eqb, get_or, take, drop}
+use Rattle.std.specs.Prelude.{◌≡◌, ℕ, zero, suc, ◌+◌, ◌*◌, ◌/◌, ◌%◌, ◌≤◌, ◌<◌}
+use Rattle.std.specs.Prelude.{Bool, cond, List, eqb, get_or, take, drop}
 use Rattle.algebra.specs.ring.Ring.{Ops}
 use Rattle.butterflies.specs.Equation3.{direct, inner, factor, outer}
 use Rattle.numbers.specs.Value.{Value, field, i}
@@ -65,13 +66,15 @@ line_count l k = product (drop (suc k) l)
 -- the slice after the first k steps, from the numbers of a line
 unfoldable pub after_steps : (m : ℕ) → Value m → (l : List ℕ) (k : ℕ) (line : List ℕ) → List ℕ
 after_steps m W l zero line = line
-after_steps m W l (suc k) line = step_of m W (inner_length l k) (outer_length l k) (line_count l k) (after_steps m W l k line)
+after_steps m W l (suc k) line =
+    step_of m W (inner_length l k) (outer_length l k) (line_count l k) (after_steps m W l k line)
 
 -- What the work slice, which held `work`, holds after the first k steps: the steps go to and fro, that of place k from
 -- the line to the work slice where k is even.
 unfoldable pub work_after : (m : ℕ) → Value m → (l : List ℕ) (k : ℕ) (line work : List ℕ) → List ℕ
 work_after m W l zero line work = work
-work_after m W l (suc k) line work = cond (eqb (k % 2) 0) (after_steps m W l (suc k) line) (work_after m W l k line work)
+work_after m W l (suc k) line work =
+    cond (eqb (k % 2) 0) (after_steps m W l (suc k) line) (work_after m W l k line work)
 
 -- ---- What a line that is stored times i is multiplied by: i, or over i, which is -i.
 abbrev pub rotation : (m : ℕ) → (over : Bool) → Value m

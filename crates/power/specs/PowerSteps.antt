@@ -34,7 +34,8 @@ module _ (g : Group) (a : J) (m : ℕ) (v : List ℕ) where
   unfoldable pub row_power : (ofMap : Bool) (w h : ℕ) → Residue m
   row_power true w h = squares m v (2 * pair_place g a w h 0) (2 * a.1)
   row_power false w h =
-      (ring m).add ((ring m).add (squares m v (2 * pair_place g a w h 0) 2) (squares m v (2 * pair_place g a w h a.1) 2))
+      (ring m).add
+      ((ring m).add (squares m v (2 * pair_place g a w h 0) 2) (squares m v (2 * pair_place g a w h a.1) 2))
       (doubled (ring m) true (squares m v (2 * pair_place g a w h 1) (2 * (a.1 - 1))))
 
   unfoldable pub layer_power : (ofMap : Bool) (w : ℕ) → Residue m

@@ -10,8 +10,8 @@ use Rattle.refusals.specs.Refusals.{Test, ◌⇒◌, first, accepted}
 use Rattle.cell.specs.Volume.{layers, map_place}
 use Rattle.job.specs.declared.Job.{Job}
 use Rattle.numbers.specs.Value.{prime}
-use Rattle.job.specs.Job.{group_in, halves, valid_job, map_held, fits, needed, with_state, opened, not_opened, OpenOutcome}
-use Rattle.job.specs.Job.{synthesised}
+use Rattle.job.specs.Job.{group_in, halves, valid_job, map_held, fits, needed, with_state, opened, not_opened}
+use Rattle.job.specs.Job.{OpenOutcome, synthesised}
 use Rattle.factor_file.specs.File.{header_in, file_step}
 
 -- "map 0 2 2 2"
@@ -70,7 +70,8 @@ abbrev pub put_text : (text output : List ℕ) → FillOutcome
 put_text text output = cond (ltb (length output) (length text)) (not_filled output 18) (filled text output)
 
 unfoldable pub text_step : Job → (v output : List ℕ) → FillOutcome
-text_step j v output = accepted (first (text_tests j v (length output))) (filled (map_text j v) output) (not_filled output)
+text_step j v output =
+    accepted (first (text_tests j v (length output))) (filled (map_text j v) output) (not_filled output)
 
 -- ---- The printer's limits: the bytes of a file that it reads, and the numbers of a volume that it lends.
 

@@ -39,7 +39,9 @@ pub record Lined (group : ℕ) (n : J) (v : List ℤ) (z : ℕ) : Type 0 where
   pub rows : (x i : ℕ) → x < n.0 → i < row_lines n → IsLine (section_line group n v z x i)
   pub last :
       (t : ℤ) →
-      IsLine (closing_line total_letter t) × IsLine (closing_line mean_letter t) × IsLine (closing_line remainder_letter t)
+      IsLine (closing_line total_letter t)
+      × IsLine (closing_line mean_letter t)
+      × IsLine (closing_line remainder_letter t)
   pub count : length (section_text group n v z) ≡ 70 * (n.0 * row_lines n + 3)
 
 abbrev pub SectionWidth : Type 0

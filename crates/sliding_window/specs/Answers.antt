@@ -5,9 +5,15 @@ use Rattle.output.specs.declared.FillAnswer.{FillAnswer}
 use Rattle.output.specs.Answers.{said_fill}
 use Rattle.sliding_window.specs.Window.{WindowOutcome}
 
-abbrev pub window_outcome : FillAnswer → (least greatest : List ℤ) (place_of_least place_of_greatest : List ℕ) → WindowOutcome
+abbrev pub window_outcome : FillAnswer →
+    (least greatest : List ℤ) (place_of_least place_of_greatest : List ℕ) → WindowOutcome
 window_outcome r least greatest place_of_least place_of_greatest =
     record {
       answer = said_fill r;
-      outputs = record { least = least; greatest = greatest; place_of_least = place_of_least; place_of_greatest = place_of_greatest };
+      outputs = record {
+        least = least;
+        greatest = greatest;
+        place_of_least = place_of_least;
+        place_of_greatest = place_of_greatest;
+      };
     }

@@ -1,4 +1,5 @@
--- What the test programs print: lines of numbers in decimal, with a blank between each two. In ASCII 32 is the blank and 10 the line feed.
+-- What the test programs print: lines of numbers in decimal, with a blank between each two. In ASCII 32 is the blank
+-- and 10 the line feed.
 use Rattle.std.specs.Prelude.{List, [], ◌∷◌, ◌++◌, ℕ, zero, suc, ◌%◌, ◌^◌, ℤ}
 use Rattle.std.specs.Fmt.{decimal, signed_decimal}
 use Rattle.std.specs.List.{join_by}
@@ -22,12 +23,14 @@ signed_line_of v = join_by signed_decimal (32 ∷ []) v ++ 10 ∷ []
 abbrev pub longer_line_of : (number written : ℕ) → List ℕ → List ℕ
 longer_line_of number written left = decimal number ++ 32 ∷ (decimal written ++ 32 ∷ line_of left)
 
--- the refusal's number or 0 and how many places a call wrote, by the lowest 32 bits of it; then numbers that tell what it left
+-- the refusal's number or 0 and how many places a call wrote, by the lowest 32 bits of it; then numbers that tell what
+-- it left
 abbrev pub answer_line_of : FillAnswer → List ℕ → List ℕ
 answer_line_of (Written n) left = longer_line_of 0 (n % 2 ^ 32) left
 answer_line_of (Refused r) left = longer_line_of (number_of r) 0 left
 
--- how many numbers a script of calls wrote, by their lowest 32 bits, the job's checksum and those of two buffers; then every answer
+-- how many numbers a script of calls wrote, by their lowest 32 bits, the job's checksum and those of two buffers; then
+-- every answer
 abbrev pub replay_lines_of : (written job : ℕ) → (volume scratch : List ℕ) → List ℤ → List ℕ
 replay_lines_of written job volume scratch answers =
     line_of (written % 2 ^ 32 ∷ job ∷ checksum_of volume ∷ checksum_of scratch ∷ []) ++ signed_line_of answers

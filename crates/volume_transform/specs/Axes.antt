@@ -30,7 +30,8 @@ module _ (m A : ℕ) where
   -- multiplies before it
   abbrev pub turned_stored : ℕ → Bool → Kind → List ℕ → List ℕ
   turned_stored zero b kind l = list_of (slots kind A) (λ s. over_i m b (forward_values kind (values_of m l) s))
-  turned_stored (suc direction) b kind l = list_of (slots kind A) (inverse_values kind (λ s. times_i m b (values_of m l s)))
+  turned_stored (suc direction) b kind l =
+      list_of (slots kind A) (inverse_values kind (λ s. times_i m b (values_of m l s)))
 
 module _ (m B : ℕ) where
   -- a row of B + 1 pairs becomes N2 real values and two zeros

@@ -1,5 +1,6 @@
 -- One line of a volume: its kind, its length and its places, what is known of them, and its turn.
-use Rattle.std.specs.Prelude.{◌≡◌, ◌⊎◌, Bool, cond, List, ℕ, ◌+◌, ◌*◌, ◌<◌, ◌≤◌, zero, suc, eqb, length, drop, get_or, set}
+use Rattle.std.specs.Prelude.{◌≡◌, ◌⊎◌, ◌+◌, ◌*◌, ◌<◌, ◌≤◌}
+use Rattle.std.specs.Prelude.{Bool, cond, List, ℕ, zero, suc, eqb, length, drop, get_or, set}
 use Rattle.algebra.specs.lines.Kinds.{slots}
 use Rattle.numbers.specs.Value.{prime, IsModulus}
 use Rattle.numbers.specs.Bounds.{Small}

@@ -1,9 +1,9 @@
 -- The six kinds of line, as the paper's table has them: what a packed line holds before the transform and after it, and
 -- what the transform is.
 --
--- A line X has N = 2 A values, indices modulo N. `unfold_before` and `unfold_after` are the whole line that a packed one
--- stands for, `pack_before` and `pack_after` the pairs that are packed of a whole line. The transform, `forward`, and its
--- inverse are sums over the whole line: no fold stands here.
+-- A line X has N = 2 A values, indices modulo N. `unfold_before` and `unfold_after` are the whole line that a packed
+-- one stands for, `pack_before` and `pack_after` the pairs that are packed of a whole line. The transform, `forward`,
+-- and its inverse are sums over the whole line: no fold stands here.
 use Rattle.std.specs.Prelude.{◌≡◌, ◌*◌, ◌-◌, ◌/◌, ◌%◌, ◌<◌, ◌+◌}
 use Rattle.algebra.specs.Prelude.{ℕ, zero, suc}
 use Prim.Native.Nat.{Ordering}

@@ -1,12 +1,11 @@
 -- The invariant `Filling` of a loop that fills a list: how it starts, goes on and ends; and the same of a loop that stores pairs.
 use mathlib.Core.Path.{◌≡◌, refl, sym, ap, ◌∙◌, subst}
 use mathlib.Core.Logic.{◌≢◌}
-use mathlib.Core.List.{List, ◌++◌}
-use Prim.Native.Nat.{ℕ, zero, suc, ◌+◌, ◌*◌, ◌<◌, ◌≤◌}
+use mathlib.Core.List.{List}
+use Prim.Native.Nat.{ℕ, ◌+◌, ◌*◌, ◌<◌, ◌≤◌}
 use native.Mathlib.Omega.{arith}
 use native.Mathlib.Numerals.{add-one}
-use lib.ListN.{length, set, replicate, drop, length-set}
-use borrow.Author.Fill.{fill_none, fill_more}
+use lib.ListN.{length, set, length-set}
 use Rattle.numbers.specs.declared.Pair.{Pair}
 use Rattle.slices.specs.Pairs.{at, put, puts, tab}
 use Rattle.slices.specs.Filling.{Filling, stores, FillingPairs}
@@ -30,11 +29,6 @@ module _ {E S : Type 0} {run : (ℕ → ℕ) → (ℕ → S) → ℕ → List E 
 pub stores_next : {E : Type 0} (p : ℕ → ℕ) (f : ℕ → E) (n : ℕ) (d : List E) → set (stores p f n d) (p n) (f n) ≡ stores p f (n + 1) d
 unfolding stores
 stores_next p f n d = rw (add-one) refl
-
-pub stores_replicate : (x n : ℕ) (d : List ℕ) → n ≤ length d → stores (λ j. j) (λ j. x) n d ≡ replicate n x ++ drop n d
-unfolding stores
-stores_replicate x zero d l = fill_none d x
-stores_replicate x (suc n) d l = ap (λ s. set s n x) (stores_replicate x n d (omega arith)) ∙ fill_more n x d l ∙ ap (λ k. replicate k x ++ drop k d) (add-one n)
 
 module _ {E : Type 0} {p : ℕ → ℕ} {f : ℕ → E} {n : ℕ} {d₀ : List E} where
   pub storing_start : Filling stores p f n 0 d₀ d₀

@@ -1,10 +1,10 @@
 -- The numbers and the pairs inside and outside a part of a list that was lent, and runs of stores against take, drop and append.
 use mathlib.Core.Path.{◌≡◌, sym, ap, ◌∙◌, subst}
 use mathlib.Core.Logic.{⊎_elim}
-use mathlib.Core.List.{List, ◌++◌, append-nil}
+use mathlib.Core.List.{List, ◌++◌}
 use Prim.Native.Nat.{ℕ, ◌+◌, ◌-◌, ◌*◌, ◌<◌, ◌≤◌}
 use native.Mathlib.Omega.{arith}
-use lib.ListN.{length, get_or, take, drop, replicate, length-append, length-drop, get_or-replicate, drop_of_length-le, get_or-append}
+use lib.ListN.{length, get_or, take, drop, replicate, length-append, length-drop, get_or-replicate, get_or-append}
 use lib.Seq.{length-take-le, get_or-take, get_or-drop, get_or-append-add, take_at, drop_at}
 use Rattle.numbers.specs.declared.Pair.{Pair}
 use Rattle.slices.specs.Pairs.{at, puts, fills, tab}
@@ -153,6 +153,3 @@ module _ (f : ℕ → Pair) (n : ℕ) where
 pub at_zeros : (n k : ℕ) → k < n → at (replicate (2 * n) 0) k ≡ zero_pair
 unfolding at
 at_zeros n k h = λ x. record { re = get_or-replicate (2 * n) (2 * k) 0 0 (omega arith) x; im = get_or-replicate (2 * n) (2 * k + 1) 0 0 (omega arith) x }
-
-pub cleared_all : (n : ℕ) (l : List ℕ) → length l ≤ n → replicate n 0 ++ drop n l ≡ replicate n 0
-cleared_all n l h = ap (λ (x : List ℕ). replicate n 0 ++ x) (drop_of_length-le l h) ∙ append-nil (replicate n 0)

@@ -7,19 +7,14 @@ pub fn clear(d: &mut [u32], n: usize)
     requires { n ≤ length d.old }
     ensures { d.new ≡ replicate n 0 ++ drop n d.old }
 {
-    let mut i = 0;
-    while i < n {
-        d[i] = 0;
-        i += 1;
-    }
+    d[..n].fill(0);
 }
 
 // Every number becomes zero, however many there are.
 pub fn zero(volume: &mut [u32])
     ensures { volume.new ≡ replicate (length volume.old) 0 }
 {
-    let count = volume.len();
-    clear(volume, count);
+    volume.fill(0);
 }
 
 // Every number of s is below p. The loop looks at all of them, wherever one is too large, so that it can go several at a time.
@@ -27,10 +22,8 @@ pub fn all_below(s: &[u32], p: u32) -> bool
     ensures { result ≡ all_below p s.now }
 {
     let mut below = true;
-    let mut i = 0;
-    while i < s.len() {
-        below = below & (s[i] < p);
-        i += 1;
+    for x in s {
+        below &= *x < p;
     }
     below
 }

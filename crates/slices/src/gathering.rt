@@ -9,10 +9,8 @@ pub fn gather(s: &[u32], start: usize, stride: usize, d: &mut [u32], n: usize)
     ensures { d.new
         ≡ fills (λ j. at s.now (start + j * stride)) n d.old }
 {
-    let mut j = 0;
-    while j < n {
+    for j in 0..n {
         crate::store(d, j, crate::get(s, start + j * stride));
-        j += 1;
     }
 }
 
@@ -22,9 +20,7 @@ pub fn scatter(s: &[u32], start: usize, stride: usize, d: &mut [u32], n: usize)
     requires stride_in_bounds { 2 * (start + n * stride) + 2 ≤ length d.old + 2 * stride }
     ensures { d.new ≡ puts (λ j. start + j * stride) (at s.now) n d.old }
 {
-    let mut j = 0;
-    while j < n {
+    for j in 0..n {
         crate::store(d, start + j * stride, crate::get(s, j));
-        j += 1;
     }
 }

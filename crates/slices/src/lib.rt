@@ -11,6 +11,7 @@ ghost use Rattle.slices.specs.Pairs.{at, put, fills};
 use numbers::Pair;
 
 // The pair at place j.
+#[tactic(auto, unfolding(crate::specs::Pairs::at))]
 pub fn get(s: &[u32], j: usize) -> Pair
     requires { 2 * j + 1 < length s.now }
     ensures { result ≡ at s.now j }
@@ -23,6 +24,7 @@ pub fn get(s: &[u32], j: usize) -> Pair
 }
 
 // v goes to place j.
+#[tactic(auto, unfolding(crate::specs::Pairs::put))]
 pub fn store(d: &mut [u32], j: usize, v: Pair)
     requires { 2 * j + 1 < length d.old }
     ensures { d.new ≡ put d.old j v }
@@ -38,9 +40,7 @@ pub fn copy(src: &[u32], dst: &mut [u32], n: usize)
     requires n_in_bounds_2 { 2 * n ≤ length dst.old }
     ensures { dst.new ≡ fills (at src.now) n dst.old }
 {
-    let mut j = 0;
-    while j < n {
+    for j in 0..n {
         store(dst, j, get(src, j));
-        j += 1;
     }
 }

@@ -14,7 +14,7 @@ use Rattle.algebra.proofs.ring.Conj.{conj_pow}
 use Rattle.numbers.specs.Value.{prime, IsModulus, Value, ring, field, conj, i, pair_of}
 use Rattle.roots.specs.Root.{root}
 use Rattle.roots.specs.Table.{RealTable, ImaginaryTable, entry_at, table_root, RootTable}
-use Rattle.roots.specs.TableLaws.{TangentTable, AllBelow, NegatedTable}
+use Rattle.roots.specs.TableLaws.{AllBelow, NegatedTable}
 use Rattle.numbers.proofs.Residues.{res_by, below_by}
 use Rattle.numbers.proofs.Values.{pair_path, value_path, field_ring, field_star}
 use Rattle.roots.proofs.Roots.{full_turn, root_inverse, quarter_turn, root_of_unity}
@@ -50,9 +50,6 @@ module _ (m : ℕ) where
 
   pub imaginary_below : {t : List ℕ} → ImaginaryTable m t → length t ≡ 2880 → AllBelow (prime m) t
   imaginary_below h e = record { below = λ k l. below_by m (pow (field m) (root m) k).1 (h.entry k (omega arith)) }
-
-  pub tangent_below : {t : List ℕ} → TangentTable m t → length t ≡ 1440 → AllBelow (prime m) t
-  tangent_below h e = record { below = λ k l. h.below k (omega arith) }
 
 module _ (m : ℕ) (is : IsModulus m) where
   root_turning : Turning m (root m)

@@ -14,6 +14,7 @@ ghost use Rattle.roots.specs.TableLaws.{AllBelow, NegatedTable, RootLaws};
 use numbers::{Pair, neg};
 
 // The power at place k of the two arrays of powers.
+#[tactic(auto, unfolding(crate::specs::Table::entry_at))]
 pub fn root_at<'a>(re: &'a [u32; 2880], im: &'a [u32; 2880], k: usize) -> Pair
     requires { k < 2880 }
     ensures { result ≡ entry_at re.now im.now k }
@@ -29,10 +30,8 @@ pub fn negate(m: u32, t: &mut [u32])
     requires { IsModulus m × AllBelow (prime m) t.old }
     ensures { NegatedTable m (length t.old) t.old t.new }
 {
-    let mut k = 0;
-    while k < t.len() {
-        t[k] = neg(m, t[k]);
-        k += 1;
+    for x in t.iter_mut() {
+        *x = neg(m, *x);
     }
 }
 

@@ -153,3 +153,9 @@ module _ (f : ℕ → Pair) (n : ℕ) where
 pub at_zeros : (n k : ℕ) → k < n → at (replicate (2 * n) 0) k ≡ zero_pair
 unfolding at
 at_zeros n k h = λ x. record { re = get_or-replicate (2 * n) (2 * k) 0 0 (omega arith) x; im = get_or-replicate (2 * n) (2 * k + 1) 0 0 (omega arith) x }
+
+-- the first n pairs of src in place of those of d
+pub copied : (src : List ℕ) (n : ℕ) (d : List ℕ) → 2 * n ≤ length src → 2 * n ≤ length d → take (2 * n) src ++ drop (2 * n) d ≡ fills (at src) n d
+copied src n d s h =
+    ap (λ (x : List ℕ). x ++ drop (2 * n) d) (is_tab n (take (2 * n) src) (at src) (length-take-le (2 * n) src s) (λ j l. at_take n src j l))
+    ∙ sym (fills_split (at src) n d h)

@@ -35,12 +35,11 @@ pub fn store(d: &mut [u32], j: usize, v: Pair)
 }
 
 // The first n pairs of src go to the first n places of dst.
+#[tactic(auto, using(crate::proofs::Segments::copied))]
 pub fn copy(src: &[u32], dst: &mut [u32], n: usize)
     requires n_in_bounds { 2 * n ≤ length src.now }
     requires n_in_bounds_2 { 2 * n ≤ length dst.old }
     ensures { dst.new ≡ fills (at src.now) n dst.old }
 {
-    for j in 0..n {
-        store(dst, j, get(src, j));
-    }
+    dst[..2 * n].copy_from_slice(&src[..2 * n]);
 }

@@ -4,11 +4,10 @@ use mathlib.Core.Bool.{Bool, true, cond}
 use mathlib.Core.Logic.{◌≢◌, ⊎_elim}
 use mathlib.Core.List.{List}
 use Prim.Native.Nat.{ℕ, zero, suc, ◌*◌, ◌/◌, ◌%◌, ◌≤◌, ◌<◌}
-use native.Mathlib.Nat as N
 use native.Mathlib.Omega.{arith}
 use borrow.Author.Tests.{eq-eqb, ne_eqb}
 use lib.ListN.{length, drop}
-use Rattle.algebra.specs.ring.Ring.{Ops, pow, dft}
+use Rattle.algebra.specs.ring.Ring.{pow, dft}
 use Rattle.numbers.specs.Value.{prime, Value, field}
 use Rattle.numbers.proofs.Values.{field_ring}
 use Rattle.slices.specs.Pairs.{at, fills, Below, values_of, list_of}
@@ -125,6 +124,7 @@ module _ {m : ℕ} {W : Value m} {factors n : ℕ} {line : List ℕ} (lent : Len
 
 -- An even number of steps is done, and what they leave is in the line.
 pub record Driving (m : ℕ) (W : Value m) (factors n : ℕ) (s : Stage) (line₀ work₀ line work : List ℕ) : Type 0 where
+  pub lent : Lent m W factors n line₀
   pub place : ℕ
   pub even : place % 2 ≡ 0
   pub stands : Standing m W factors line₀ place s line
@@ -141,38 +141,52 @@ module _ (m : ℕ) (W : Value m) (l : List ℕ) (k : ℕ) (line work : List ℕ)
   unfolding work_after
   work_kept = ap (λ (b : Bool). cond b (after_steps m W l (suc (suc k)) line) (work_after m W l (suc k) line work)) (ne_eqb (suc k % 2) 0 (λ e. omega arith))
 
-module _ {m : ℕ} {W : Value m} {factors n : ℕ} {line₀ : List ℕ} (lent : Lent m W factors n line₀) where
-  pub driving_start : {work : List ℕ} → length work ≡ 2 * n → Driving m W factors n (record { left = factors; inner = 1; lines = n }) line₀ work line₀ work
+module _ {m : ℕ} {W : Value m} {factors n : ℕ} {line₀ : List ℕ} where
+  pub driving_start : {work : List ℕ} → Lent m W factors n line₀ → length work ≡ 2 * n → Driving m W factors n (record { left = factors; inner = 1; lines = n }) line₀ work line₀ work
   unfolding work_after
-  driving_start work_long = record { place = 0; even = refl; stands = standing_start lent; work_is = refl; work_long = work_long }
+  driving_start lent work_long = record { lent = lent; place = 0; even = refl; stands = standing_start lent; work_is = refl; work_long = work_long }
 
   module _ {s : Stage} {work₀ line work : List ℕ} (d : Driving m W factors n s line₀ work₀ line work) where
-    -- a step into the work slice, and one back into the line
-    pub driving_next : {t s' : Stage} {work' line' : List ℕ} → Standing m W factors line₀ (suc d.place) t work' → Standing m W factors line₀ (suc (suc d.place)) s' line' → Driving m W factors n s' line₀ work₀ line' work'
-    driving_next h h' = record {
-      place = suc (suc d.place);
-      even = let e = d.even in omega arith;
-      stands = h';
-      work_is = h.holds ∙ sym (work_kept m W (octal_digits factors) d.place line₀ work₀ d.even ∙ work_next m W (octal_digits factors) d.place line₀ work₀ d.even);
-      work_long = standing_long lent h;
-    }
-
     -- no factor is left
     pub driving_end : s.left ≡ 0 → (line ≡ list_of n (dft (field m) n (pow (field m) W (2880 / n)) (values_of m line₀)))
         × ((line ≡ after_steps m W (octal_digits factors) (length (octal_digits factors)) line₀) × (work ≡ work_after m W (octal_digits factors) (length (octal_digits factors)) line₀ work₀))
     driving_end z =
-        let all = standing_last lent d.stands z in
-        (standing_end lent d.stands z, (d.stands.holds ∙ ap (λ i. after_steps m W (octal_digits factors) i line₀) all, d.work_is ∙ ap (λ i. work_after m W (octal_digits factors) i line₀ work₀) all))
+        let all = standing_last d.lent d.stands z in
+        (standing_end d.lent d.stands z, (d.stands.holds ∙ ap (λ i. after_steps m W (octal_digits factors) i line₀) all, d.work_is ∙ ap (λ i. work_after m W (octal_digits factors) i line₀ work₀) all))
 
-    -- a last step into the work slice, copied into the line
-    pub driving_last : {t : Stage} {work' line' : List ℕ} → Standing m W factors line₀ (suc d.place) t work' → t.left ≡ 0 → line' ≡ fills (at work') n line → (line' ≡ list_of n (dft (field m) n (pow (field m) W (2880 / n)) (values_of m line₀)))
-        × ((line' ≡ after_steps m W (octal_digits factors) (length (octal_digits factors)) line₀) × (work' ≡ work_after m W (octal_digits factors) (length (octal_digits factors)) line₀ work₀))
-    driving_last {work' = work'} h z copied =
-        let all = standing_last lent h z in
-        let whole = copied ∙ fills_whole n work' line (standing_long lent h) (standing_long lent d.stands) in (
-          whole ∙ standing_end lent h z,
-          (
-            whole ∙ h.holds ∙ ap (λ i. after_steps m W (octal_digits factors) i line₀) all,
-            h.holds ∙ sym (work_next m W (octal_digits factors) d.place line₀ work₀ d.even) ∙ ap (λ i. work_after m W (octal_digits factors) i line₀ work₀) all,
-          ),
-        )
+    module _ (more : s.left ≢ 0) where
+      pub driving_asks : Ahead s × (((length line ≡ 2 * points s) × (length work ≡ 2 * points s)) × Below (prime m) line)
+      driving_asks = step_asks d.lent d.stands more d.work_long
+
+      -- a step into the work slice
+      module _ {t : Stage} {work' : List ℕ} (next : t ≡ after s) (step : work' ≡ step_of m W s.inner (s.left % 8) (s.lines / (s.left % 8)) line) where
+        there : Standing m W factors line₀ (suc d.place) t work'
+        there = standing_next d.lent d.stands more next step
+
+        -- one back into the line
+        pub driving_asks_back : t.left ≢ 0 → Ahead t × (((length work' ≡ 2 * points t) × (length line ≡ 2 * points t)) × Below (prime m) work')
+        driving_asks_back again = step_asks d.lent there again (standing_long d.lent d.stands)
+
+        pub driving_next : {s' : Stage} {line' : List ℕ} → t.left ≢ 0 → s' ≡ after t → line' ≡ step_of m W t.inner (t.left % 8) (t.lines / (t.left % 8)) work'
+            → Driving m W factors n s' line₀ work₀ line' work'
+        driving_next again next' step' = record {
+          lent = d.lent;
+          place = suc (suc d.place);
+          even = let e = d.even in omega arith;
+          stands = standing_next d.lent there again next' step';
+          work_is = there.holds ∙ sym (work_kept m W (octal_digits factors) d.place line₀ work₀ d.even ∙ work_next m W (octal_digits factors) d.place line₀ work₀ d.even);
+          work_long = standing_long d.lent there;
+        }
+
+        -- or, as the last one, copied into the line
+        pub driving_last : {line' : List ℕ} → t.left ≡ 0 → line' ≡ fills (at work') n line → (line' ≡ list_of n (dft (field m) n (pow (field m) W (2880 / n)) (values_of m line₀)))
+            × ((line' ≡ after_steps m W (octal_digits factors) (length (octal_digits factors)) line₀) × (work' ≡ work_after m W (octal_digits factors) (length (octal_digits factors)) line₀ work₀))
+        driving_last z copied =
+            let all = standing_last d.lent there z in
+            let whole = copied ∙ fills_whole n work' line (standing_long d.lent there) (standing_long d.lent d.stands) in (
+              whole ∙ standing_end d.lent there z,
+              (
+                whole ∙ there.holds ∙ ap (λ i. after_steps m W (octal_digits factors) i line₀) all,
+                there.holds ∙ sym (work_next m W (octal_digits factors) d.place line₀ work₀ d.even) ∙ ap (λ i. work_after m W (octal_digits factors) i line₀ work₀) all,
+              ),
+            )

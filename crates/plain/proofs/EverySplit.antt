@@ -7,7 +7,7 @@ use native.Mathlib.Nat as N
 use native.Mathlib.Numerals.{add-one}
 use native.Mathlib.Omega.{arith}
 use lib.ListN.{length, get_or, drop}
-use Rattle.algebra.specs.ring.Ring.{Ops, pow}
+use Rattle.algebra.specs.ring.Ring.{pow}
 use Rattle.numbers.specs.Value.{prime, Value, field}
 use Rattle.numbers.proofs.Values.{field_ring}
 use Rattle.slices.specs.Pairs.{Below, values_of, list_of}

@@ -55,6 +55,7 @@ pub fn transform<'a>(
         inner: 1,
         lines: n,
     };
+    // A turn takes two factors off the packed list: there is nothing that is counted.
     while 8 <= at.left {
         at = next_step(m, re, im, at, line, work);
         at = next_step(m, re, im, at, work, line);

@@ -30,11 +30,9 @@ pub fn scale(m: u32, c: u32, n: usize, line: &mut [u32])
     ensures { line.new
         ≡ list_of n (λ t. (field m).mul (real m (res m c)) (values_of m line.old t)) }
 {
-    let mut j = 0;
-    while j < n {
+    for j in 0..n {
         let v = slices::get(line, j);
         slices::store(line, j, numbers::scaled(m, c, v));
-        j += 1;
     }
 }
 
@@ -46,11 +44,9 @@ pub fn rotate(m: u32, over: bool, n: usize, line: &mut [u32])
     ensures { line.new
         ≡ list_of n (λ t. (field m).mul (rotation m over) (values_of m line.old t)) }
 {
-    let mut j = 0;
-    while j < n {
+    for j in 0..n {
         let v = slices::get(line, j);
         slices::store(line, j, rotated(m, over, v));
-        j += 1;
     }
 }
 

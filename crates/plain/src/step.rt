@@ -14,8 +14,8 @@ ghost use Rattle.plain.specs.Plain.{inner_sums, step_of, StepParts, Splits};
 use butterflies::twiddle::Places;
 
 // Place q A B + (𝐚 + 𝐛 A) of `to` becomes the outer sum for 𝐛, over b, of the value at place (b M + q) A + 𝐚 of `from` times its factor.
-// `a` is the 𝐚 of the transform; `first` is the place q A + 𝐚 that is read for b = 0, `base` the place q A B + 𝐚 that 𝐛 = 0 goes to, and
-// W^k is e(𝐚/AB), the factor of b = 1.
+// `a` is the 𝐚 of the transform; q A + 𝐚 is the place that is read for b = 0, q A B + 𝐚 the one that 𝐛 = 0 goes to, and W^k is e(𝐚/AB),
+// the factor of b = 1.
 pub fn step<'a>(
     m: u32,
     re: &'a [u32; 2880],
@@ -39,30 +39,18 @@ pub fn step<'a>(
         → StepParts m (table_root m re.now im.now) inner outer lines X from.now
         to.new }
 {
-    let stride = lines * inner;
-    let skip = outer * inner - inner;
-    let exponent = 2880 / (inner * outer);
-    let mut first = 0;
-    let mut a = 0;
-    let mut base = 0;
-    let mut k = 0;
-    while first < stride {
-        let at = Places {
-            first: first,
-            stride: stride,
-            k: k,
-            base: base,
-            gap: inner,
-        };
-        butterflies::radix::outer_sums(m, re, im, outer, at, from, to);
-        first += 1;
-        a += 1;
-        base += 1;
-        k += exponent;
-        if a == inner {
-            a = 0;
-            base += skip;
-            k = 0;
+    let width = inner * outer;
+    let exponent = 2880 / width;
+    for q in 0..lines {
+        for a in 0..inner {
+            let at = Places {
+                first: q * inner + a,
+                stride: lines * inner,
+                k: exponent * a,
+                base: q * width + a,
+                gap: inner,
+            };
+            butterflies::radix::outer_sums(m, re, im, outer, at, from, to);
         }
     }
 }

@@ -64,6 +64,10 @@ module _ {f : ℕ → Pair} {n j : ℕ} {d₀ d : List ℕ} where
   pub filling_ahead : (k : ℕ) → FillingPairs (λ i. i) f n j d₀ d → j ≤ k → at d k ≡ at d₀ k
   filling_ahead k h l = filling_kept k h (λ i li e. omega arith)
 
+  -- the pair that the turn reads, in place, is still the one that came in
+  pub filling_read : {v : Pair} → FillingPairs (λ i. i) f n j d₀ d → v ≡ at d j → v ≡ at d₀ j
+  filling_read h e = e ∙ filling_ahead j h (omega arith)
+
   -- the loop went over all of the list
   pub filling_whole : FillingPairs (λ i. i) f n j d₀ d → n ≤ j → length d₀ ≡ 2 * n → d ≡ tab n f
   filling_whole h l e = filling_done h l ∙ fills_tab f n d₀ e

@@ -4,7 +4,7 @@ use mathlib.Core.List.{List}
 use Prim.Native.Nat.{ℕ, ◌+◌, ◌*◌}
 use native.Mathlib.Nat as N
 use lib.ListN.{length}
-use Rattle.algebra.specs.ring.Ring.{Ops, residue, residues, gauss}
+use Rattle.algebra.specs.ring.Ring.{residue, residues, gauss}
 use Rattle.numbers.specs.Value.{prime, Value, field, real, part}
 use Rattle.numbers.specs.Bounds.{res}
 use Rattle.numbers.proofs.Residues.{residue_above, res_val}

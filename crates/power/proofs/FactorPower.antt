@@ -6,25 +6,24 @@ use Prim.Native.Nat.{ℕ, zero, suc, ◌+◌, ◌*◌, ◌-◌, ◌<◌, ◌≤�
 use native.Mathlib.Omega.{arith}
 use lib.ListN.{length}
 use borrow.Author.Tests.{le-leb, lt-leb}
-use Rattle.algebra.specs.ring.Ring.{sum, gauss, residues}
+use Rattle.algebra.specs.ring.Ring.{sum}
 use Rattle.algebra.specs.fourier.Halves.{doubled, between}
 use Rattle.algebra.specs.lines.Kinds.{Kind.plain, Kind.alternating, Kind.symmetric, Kind.antisymmetric}
 use Rattle.algebra.specs.cells.Cell.{J, Group, P1, P2₁, Pm, Pa, P2₁2₁2₁, planes, neg_i, flip}
 use Rattle.algebra.specs.cells.CellPack.{even}
-use Rattle.algebra.proofs.ring.Bool.{split}
 use Rattle.algebra.proofs.ring.Laws.{along}
 use Rattle.algebra.proofs.fourier.Sums.{sum_cong, sum_swap, sum_blocks}
 use Rattle.algebra.proofs.cells.CellAxis.{neg_pos}
 use Rattle.algebra.proofs.cells.CellTests.{Positive}
-use Rattle.numbers.specs.Value.{prime, Residue, Value, ring, field, conj, value_of}
+use Rattle.numbers.specs.Value.{prime, Residue, Value, ring, field, value_of}
 use Rattle.numbers.proofs.Residues.{res_ring}
 use Rattle.slices.specs.Pairs.{at, Below, values_of}
-use Rattle.cell.specs.Volume.{line_kind, rotated, over_i, rows, columns, layers, pair_place, volume_length, whole_line, line_in, factors_in}
+use Rattle.cell.specs.Volume.{rotated, over_i, rows, columns, layers, pair_place, volume_length, whole_line, line_in, factors_in}
 use Rattle.cell.specs.Consistency.{consistent_factors}
 use Rattle.cell.proofs.LineReading.{read_line, read_plain, alternating_first, alternating_middle, alternating_low, read_symmetric, read_antisymmetric, mirror_alternating, mirror_symmetric, mirror_antisymmetric}
 use Rattle.cell.proofs.Reading.{pairs_in, EmptyEnds, empty_ends_lem}
 use Rattle.cell.proofs.Consistency.{consistent_read}
-use Rattle.power.specs.Power.{over_cell, factor_power}
+use Rattle.power.specs.Power.{factor_power}
 use Rattle.power.specs.PowerSteps.{layer_twice, square_at, squares, row_power, layer_power, stored_power}
 use Rattle.algebra.proofs.fourier.Halves.{doubled_sum, half_ends, ends_and_between, whole_ends, sum_mirror, sum_flip}
 use Rattle.algebra.proofs.ring.Norms.{norm, norm_conj_product, norm_conj, norm_neg, norm_over_i, norm_signed, norm_parts}

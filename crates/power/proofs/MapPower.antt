@@ -1,8 +1,8 @@
 -- The power of a map over its stored planes: a plane that is not stored has the numbers of a stored one, in another order.
-use mathlib.Core.Path.{◌≡◌, refl, sym, ◌∙◌, ap}
-use mathlib.Core.Bool.{Bool, true, false}
+use mathlib.Core.Path.{◌≡◌, sym, ◌∙◌, ap}
+use mathlib.Core.Bool.{true}
 use mathlib.Core.List.{List}
-use Prim.Native.Nat.{ℕ, suc, ◌+◌, ◌*◌, ◌-◌, ◌<◌, ◌≤◌}
+use Prim.Native.Nat.{ℕ, suc, ◌+◌, ◌*◌, ◌<◌, ◌≤◌}
 use native.Mathlib.Omega.{arith}
 use borrow.Author.Tests.{le-ltb}
 use Rattle.algebra.specs.ring.Ring.{sum, residues}
@@ -13,7 +13,7 @@ use Rattle.algebra.proofs.fourier.Sums.{sum_cong, sum_swap}
 use Rattle.algebra.proofs.cells.CellAxis.{neg_pos, half_high}
 use Rattle.numbers.specs.Value.{Residue, Value, ring, field}
 use Rattle.numbers.proofs.Residues.{res_ring}
-use Rattle.cell.specs.Volume.{rows, layers, pair_place, map_place, density_place, map_in}
+use Rattle.cell.specs.Volume.{layers, pair_place, map_place, density_place, map_in}
 use Rattle.cell.proofs.Maps.{own_plane}
 use Rattle.power.specs.Power.{over_cell, map_power}
 use Rattle.power.specs.PowerSteps.{layer_twice, square_at, squares, row_power, layer_power, stored_power}

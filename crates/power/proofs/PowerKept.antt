@@ -4,7 +4,7 @@ use mathlib.Core.Bool.{true}
 use mathlib.Core.List.{List, [], ◌∷◌}
 use Prim.Native.Nat.{ℕ, zero, suc, ◌*◌, ◌%◌}
 use lib.ListN.{length}
-use Rattle.algebra.specs.ring.Ring.{Ops, Res, sum, residue, residues, gauss}
+use Rattle.algebra.specs.ring.Ring.{Ops, residue, gauss}
 use Rattle.algebra.specs.fourier.Axis.{cast, AxisLaws}
 use Rattle.algebra.specs.ring.RingLaws.{CRing}
 use Rattle.algebra.specs.cells.Cell.{J, Inside, Group, friedel, Cell}

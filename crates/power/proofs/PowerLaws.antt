@@ -1,15 +1,12 @@
 -- What the loops add up: squares of neighbouring numbers, rows and layers.
 use mathlib.Core.Path.{◌≡◌, refl, sym, ◌∙◌, ap, ap₂}
-use mathlib.Core.Bool.{Bool, true, false, ◌||◌, not}
+use mathlib.Core.Bool.{Bool, true, false}
 use mathlib.Core.List.{List}
 use Prim.Native.Nat.{ℕ, suc, ◌+◌, ◌*◌, ◌-◌, ◌/◌, ◌<◌, ◌≤◌}
 use native.Mathlib.Nat as N
 use native.Mathlib.Omega.{arith}
 use lib.ListN.{get_or, length}
-use lib.Dec.{eqb}
-use Rattle.algebra.specs.ring.Ring.{Ops, Res, sum, residue, residues}
-use Rattle.algebra.specs.fourier.Halves.{between}
-use Rattle.algebra.specs.lines.Kinds.{Kind.plain, Kind.alternating}
+use Rattle.algebra.specs.ring.Ring.{sum, residue, residues}
 use Rattle.algebra.specs.cells.Cell.{J, Group, planes}
 use Rattle.algebra.proofs.ring.Laws.{along}
 use Rattle.algebra.proofs.ring.ResidueRing.{residue_add, residue_mul}
@@ -19,10 +16,9 @@ use Rattle.numbers.proofs.Primes.{prime_most}
 use Rattle.numbers.proofs.Residues.{res_by, val_small, below_by}
 use Rattle.slices.specs.Pairs.{Below}
 use Rattle.cell.specs.declared.operations.UnitCell.{UnitCell}
-use Rattle.cell.specs.Volume.{line_kind, rows, pair_place}
+use Rattle.cell.specs.Volume.{rows, pair_place}
 use Rattle.cell.specs.Operations.{cell_group, cell_halves}
 use Rattle.cell.specs.TestSteps.{IsVolume}
-use Rattle.cell.proofs.LineKinds.{plain_group, by_alternating, by_other}
 use Rattle.cell.proofs.StoredFactors.{pair_inside}
 use Rattle.power.specs.PowerSteps.{layer_twice, layer_power, stored_power, squares, row_power}
 
@@ -33,18 +29,6 @@ below_most is small = record { each = λ k. omega (arith, small.each k, prime_mo
 -- a row lies in the volume
 pub row_inside : {cell : UnitCell} {v : List ℕ} → IsVolume cell v → (w h : ℕ) → w < planes (cell_group cell) (cell.n3 / 2) → h < cell.n1 → 2 * pair_place (cell_group cell) (cell_halves cell) w h (cell.n2 / 2) + 2 ≤ length v
 row_inside {cell} {v} vol w h lw lh = omega (arith, (pair_inside vol w h (cell.n2 / 2) lw lh (omega arith)).inside)
-
--- ---- which layers stand twice
-
-pub twice_plain : (density : Bool) (g : Group) (A w : ℕ) → line_kind g 0 ≡ plain → false ≡ layer_twice density g A w
-twice_plain density g A w = plain_group (λ g. false ≡ layer_twice density g A w) refl g 0
-
-pub twice_alternating : (density : Bool) (g : Group) (A w : ℕ) {e : Bool} → line_kind g 0 ≡ alternating → e ≡ (eqb w 0 || eqb w A) → (density || not e) ≡ layer_twice density g A w
-twice_alternating true g A w k f = by_alternating (λ g. true ≡ layer_twice true g A w) refl refl g 0 k
-twice_alternating false g A w k f = ap not f ∙ by_alternating (λ g. between A w ≡ layer_twice false g A w) refl refl g 0 k
-
-pub twice_mirrored : (density : Bool) (g : Group) (A w : ℕ) {e : Bool} → (line_kind g 0 ≡ plain → ⊥) → (line_kind g 0 ≡ alternating → ⊥) → e ≡ (eqb w 0 || eqb w A) → not e ≡ layer_twice density g A w
-twice_mirrored density g A w y z f = ap not f ∙ by_other (λ g. (line_kind g 0 ≡ plain → ⊥) → between A w ≡ layer_twice density g A w) (λ y. absurd (y refl)) (λ y. refl) (λ y. refl) g 0 z y
 
 -- ---- squares
 
@@ -74,30 +58,30 @@ module _ (g : Group) (a : J) (m : ℕ) (v : List ℕ) (w h : ℕ) where
       (residue_add (prime m) _ _ ∙ ap (λ x. (ring m).add x x) (e2 ∙ ap₂ (λ p n. squares m v (2 * p) n) es en)))
 
 -- a loop that adds residues: what it holds is the sum of the first n
-pub record Adding (m : ℕ) (f : ℕ → Residue m) (count n total : ℕ) : Type 0 where
-  pub within : n ≤ count
+pub record Adding (m : ℕ) (f : ℕ → Residue m) (n total : ℕ) : Type 0 where
   pub added : total ≡ (sum (ring m) n f).val
 
-module _ {m : ℕ} {f : ℕ → Residue m} {count : ℕ} where
-  pub adding_start : Adding m f count 0 0
+module _ {m : ℕ} {f : ℕ → Residue m} where
+  pub adding_start : Adding m f 0 0
   unfolding sum residues residue
-  adding_start = record { within = omega arith; added = sym (N.zero-mod (prime m)) }
+  adding_start = record { added = sym (N.zero-mod (prime m)) }
 
-  pub adding_small : {n total : ℕ} → Adding m f count n total → total < prime m
-  adding_small {n} {total} i = rw i.added (val_small m (sum (ring m) n f))
+  module _ {n total : ℕ} (i : Adding m f n total) where
+    pub adding_small : total < prime m
+    adding_small = rw i.added (val_small m (sum (ring m) n f))
 
-  pub item_small : {n total x : ℕ} → Adding m f count n total → x ≡ (f n).val → x < prime m
-  item_small {n} i e = below_by m (f n) e
+    module _ {x : ℕ} (e : x ≡ (f n).val) where
+      pub item_small : x < prime m
+      item_small = below_by m (f n) e
 
-  pub adding_next : {n total x r : ℕ} → Adding m f count n total → n < count → x ≡ (f n).val → r ≡ ((ring m).add (res m total) (res m x)).val → Adding m f count (n + 1) r
-  unfolding sum
-  adding_next {n} {total} {x} {r} i l e h = record {
-    within = omega arith;
-    added = h ∙ ap (λ y. y.val) (ap₂ (ring m).add (res_by m (sum (ring m) n f) i.added) (res_by m (f n) e)) ∙ along (λ k. (sum (ring m) k f).val) (suc n) (n + 1) (omega arith);
-  }
+      pub adding_next : {r : ℕ} → r ≡ ((ring m).add (res m total) (res m x)).val → Adding m f (n + 1) r
+      unfolding sum
+      adding_next h = record {
+        added = h ∙ ap (λ y. y.val) (ap₂ (ring m).add (res_by m (sum (ring m) n f) i.added) (res_by m (f n) e)) ∙ along (λ k. (sum (ring m) k f).val) (suc n) (n + 1) (omega arith);
+      }
 
-  pub adding_done : {n total : ℕ} → Adding m f count n total → count ≤ n → total ≡ (sum (ring m) count f).val
-  adding_done {n} {total} i l = i.added ∙ along (λ k. (sum (ring m) k f).val) n count (omega (arith, i.within))
+    pub adding_done : {count : ℕ} → n ≡ count → total ≡ (sum (ring m) count f).val
+    adding_done l = i.added ∙ ap (λ k. (sum (ring m) k f).val) l
 
 -- a layer's rows, once or twice
 module _ (g : Group) (a : J) (m : ℕ) (v : List ℕ) (density : Bool) (w : ℕ) {total : ℕ} (e : total ≡ (sum (ring m) (rows g a) (λ h. row_power g a m v density w h)).val) where

@@ -42,11 +42,8 @@ fn square_sum(volume: &[u32], start: usize, count: usize) -> u64
     ensures by_index { (m : ℕ) → res m result ≡ squares m volume.now start count }
 {
     let mut total = 0;
-    let mut i = 0;
-    while i < count {
-        let x = volume[start + i];
-        total += numbers::whole(x, x);
-        i += 1;
+    for x in &volume[start..start + count] {
+        total += numbers::whole(*x, *x);
     }
     total
 }
@@ -100,11 +97,9 @@ fn layer_power(m: u32, cell: UnitCell, density: bool, volume: &[u32], w: u32) ->
     ensures { result ≡ (layer_power (cell_group cell) (cell_halves cell) m volume.now density w).val }
 {
     let mut total = 0;
-    let mut h = 0;
-    while h < cell.n1 {
+    for h in 0..cell.n1 {
         let row = row_power(m, cell, density, volume, w, h);
         total = numbers::add(m, total, row);
-        h += 1;
     }
     if layer_twice(cell, density, w) {
         numbers::add(m, total, total)
@@ -131,13 +126,10 @@ fn stored_power(m: u32, cell: UnitCell, density: bool, volume: &[u32]) -> u32
     requires { IsVolume cell volume.now × IsModulus m × Below (prime m) volume.now }
     ensures { result ≡ (stored_power (cell_group cell) (cell_halves cell) m volume.now density).val }
 {
-    let count = places::layer_count(cell);
     let mut total = 0;
-    let mut w = 0;
-    while w < count {
+    for w in 0..places::layer_count(cell) {
         let layer = layer_power(m, cell, density, volume, w);
         total = numbers::add(m, total, layer);
-        w += 1;
     }
     total
 }

@@ -55,7 +55,7 @@ pub fn reduce(m: u32, x: u64) -> u32
     }
 }
 
-// The residue of an x below 2^60.
+// The residue of an x below 2^60, by multiplications alone. `quotient` holds for no greater x, so that `reduce` stands beside this for those.
 pub fn reduce_below(m: u32, x: u64) -> u32
     requires { IsModulus m × (x < 1152921504606846976) }
     ensures { result ≡ (res m x).val }
@@ -210,7 +210,7 @@ pub fn reduced(m: u32, a: Accumulator) -> Pair
     }
 }
 
-// The same of sums below 2^60.
+// The same of sums below 2^60, where `reduce_below` does.
 pub fn reduced_below(m: u32, a: Accumulator) -> Pair
     requires { IsModulus m × (a.re < 1152921504606846976) × (a.im < 1152921504606846976) }
     ensures { result ≡ pair_of (value m a.re a.im) }

@@ -24,7 +24,8 @@ ghost use Rattle.butterflies.specs.Butterflies.{of_four_sums, of_five_sums, AllR
 
 use numbers::{Accumulator, Pair};
 
-// What a butterfly takes: values that are not reduced.
+// What a butterfly takes: values that are not reduced. Each count has its own butterfly, whose formula names them one by one: an array with
+// the count as a parameter would share nothing but the reading.
 #[derive(Clone, Copy)]
 pub struct TwoSums {
     pub x0: Accumulator,

@@ -39,6 +39,7 @@ pub fn outer_sums<'a>(
     }
 }
 
+// One function for each radix: they differ in their butterfly, and in the order in which it gives its pairs.
 fn two_at<'a>(
     m: u32,
     re: &'a [u32; 2880],

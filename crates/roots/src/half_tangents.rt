@@ -1,7 +1,8 @@
 // The half tangents d/(1 + c) of the powers r^k = c + d i of the root, k < 1,440, as a constant array for each of the two primes. Its rule,
 // tau (1 + c) = d, is tested once over the array.
 //
-// A constant array is built anew wherever it is mentioned: each is mentioned in one function, whose result is lent down.
+// A constant array is built anew wherever it is mentioned: each is mentioned in one function, whose result is lent down. So each prime has its
+// function, which is its array and no more.
 ghost use Rattle.numbers.specs.Value.{IsModulus};
 ghost use Rattle.roots.specs.TableLaws.{TangentTable};
 

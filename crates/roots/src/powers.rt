@@ -2,7 +2,8 @@
 // one of their imaginary parts. Its rule, that the pair at place 0 is 1 and every other the former times r, is tested once over both arrays.
 //
 // A constant array is built anew wherever it is mentioned: each is mentioned in one function, whose result is lent down. Where a call is
-// short beside its tables it branches on the prime first and takes that prime's: a choice between arrays is made number by number.
+// short beside its tables it branches on the prime first and takes that prime's: a choice between arrays is made number by number. So each prime
+// has its function, which is its two arrays and no more.
 ghost use Rattle.numbers.specs.Value.{IsModulus};
 ghost use Rattle.roots.specs.Table.{RealTable, ImaginaryTable};
 

@@ -3,8 +3,7 @@ use mathlib.Core.Path.{◌≡◌, sym, ◌∙◌, ap, ap₂}
 use mathlib.Core.List.{List}
 use Prim.Native.Nat.{ℕ, ◌+◌, ◌*◌, ◌/◌, ◌<◌}
 use native.Mathlib.Omega.{arith}
-use Rattle.algebra.specs.ring.Ring.{Ops, pow}
-use Rattle.algebra.specs.ring.RingLaws.{CRing}
+use Rattle.algebra.specs.ring.Ring.{pow}
 use Rattle.algebra.proofs.ring.Laws.{along}
 use Rattle.algebra.proofs.fourier.Transform.{pow_zero}
 use Rattle.numbers.specs.declared.Pair.{Pair}

@@ -1,0 +1,12 @@
+-- Read, summed and stored.
+use Rattle.butterflies.specs.Butterflies.{of_four}
+use Rattle.butterflies.proofs.radix.Spreading.{spread_none, spread_next, four_loaded, butterfly_stored}
+use Rattle.butterflies.proofs.radix.four_at.Goals as goal
+
+pub returns : goal.returns
+returns c =
+    let f = of_four c.four-y.result in
+    let d = c.args.to.now in
+    butterfly_stored c.args.m c.args.at d (four_loaded c.times_factor.ensures c.times_factor-2.ensures c.times_factor-3.ensures c.times_factor-4.ensures)
+    c.four-y.ensures
+    (spread_next c.args.at f d 2 (spread_next c.args.at f d 0 (spread_none c.args.at f d) c.store_next.ensures) c.store_next-2.ensures)

@@ -1,6 +1,6 @@
 -- Alternating lines in lanes, before the transform: what the numbers of the passes stand for.
 use mathlib.Core.Path.{◌≡◌, refl, sym, ◌∙◌, ap, ap₂, subst}
-use mathlib.Core.Logic.{◌⊎◌, ⊎_elim, ◌≢◌}
+use mathlib.Core.Logic.{⊎_elim, ◌≢◌}
 use mathlib.Core.List.{List, [], ◌∷◌}
 use Prim.Native.Nat.{ℕ, suc, ◌+◌, ◌*◌, ◌-◌, ◌%◌, ◌<◌, ◌≤◌}
 use native.Mathlib.Nat.{mul-le-mul}
@@ -9,7 +9,7 @@ use native.Mathlib.Omega.{arith}
 use lib.ListN.{get_or, length}
 use Rattle.algebra.specs.ring.Ring.{sum, gauss, residues}
 use Rattle.algebra.specs.ring.Ring as Gauss
-use Rattle.algebra.specs.lines.Kinds.{re, im, unit}
+use Rattle.algebra.specs.lines.Kinds.{im, unit}
 use Rattle.algebra.specs.lines.Packings.{unfold_b3}
 use Rattle.algebra.specs.lines.Folds.{alternating_point}
 use Rattle.algebra.proofs.ring.Laws.{along, neg_neg}

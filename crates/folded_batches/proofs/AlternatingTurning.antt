@@ -7,7 +7,6 @@ use Prim.Native.Nat.{ℕ, zero, suc, ◌+◌, ◌*◌, ◌-◌, ◌<◌, ◌≤�
 use native.Mathlib.Omega.{arith}
 use lib.ListN.{get_or, length}
 use Rattle.algebra.specs.ring.Ring.{residues, gauss}
-use Rattle.algebra.specs.lines.Kinds.{re, im}
 use Rattle.algebra.specs.lines.Folds.{csc, cot}
 use Rattle.algebra.proofs.ring.Laws.{neg_neg}
 use Rattle.algebra.proofs.ring.Solver.{ring, quote}

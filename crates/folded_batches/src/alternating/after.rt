@@ -36,10 +36,8 @@ fn first_block(odd: &[u32; 32], fold: &[u32], y: &mut [u32; 32])
         × ((v : ℕ) → v < 16 → get_or odd.now v 0 ≤ 500000000) × (length y.old ≡ 32) }
     ensures { BlockOf (first_pair odd.now fold.now) 16 y.new }
 {
-    let mut v = 0;
-    while v < 16 {
+    for v in 0..16 {
         let b = odd[v];
         crate::mixing::store_lane(y, v, fold[v] + b, b);
-        v += 1;
     }
 }

@@ -30,11 +30,9 @@ fn twice_block(o: u32, fold: &[u32], y: &mut [u32; 32])
     requires { (o ≤ 604798) × (32 ≤ length fold.now) × UpTo o fold.now × (length y.old ≡ 32) }
     ensures { BlockOf (twice_pair o fold.now) 16 y.new }
 {
-    let mut v = 0;
-    while v < 16 {
+    for v in 0..16 {
         let t = crate::alternating::before::apart(o, fold, 0, v, 0, v + 16);
         crate::mixing::store_lane(y, v, t + t, 0);
-        v += 1;
     }
 }
 
@@ -48,11 +46,9 @@ pub fn whole_line(m: u32, a: usize, twice: &[u32; 32], fold: &[u32], line: &mut 
 {
     let o = 512 * numbers::modulus(m);
     let mut y = [0u32; 32];
-    let mut j = 0;
-    while j <= a {
+    for j in 0..a + 1 {
         whole_block(o, a, twice, fold, j, &mut y);
         crate::mixing::put_place(&y, line, j);
-        j += 1;
     }
 }
 
@@ -87,12 +83,10 @@ fn even_block(o: u32, from: &[u32], i: usize, j: usize, y: &mut [u32; 32])
     ensures { BlockOf (λ v. even_pair o (lane_at from.now i v) (lane_at from.now j v)) 16
         y.new }
 {
-    let mut v = 0;
-    while v < 16 {
+    for v in 0..16 {
         let a = crate::alternating::before::added(from, i, v, j, v);
         let b = crate::alternating::before::apart(o, from, i, v + 16, j, v + 16);
         crate::mixing::store_lane(y, v, a, b);
-        v += 1;
     }
 }
 
@@ -104,12 +98,10 @@ fn odd_block(o: u32, twice: &[u32; 32], from: &[u32], i: usize, j: usize, y: &mu
     ensures { BlockOf (λ v. odd_pair o (get_or twice.now v 0) (lane_at from.now i v)
         (lane_at from.now j v)) 16 y.new }
 {
-    let mut v = 0;
-    while v < 16 {
+    for v in 0..16 {
         let a = crate::alternating::before::apart(o, from, i, v + 16, j, v + 16);
         let b = crate::alternating::before::opposite(o, from, i, v, j, v);
         crate::mixing::store_lane(y, v, a, twice[v] + b);
-        v += 1;
     }
 }
 
@@ -131,10 +123,8 @@ fn pack_block(first: usize, line: &[u32], y: &mut [u32; 32])
       im = get_or line.now (first + v) 0;
     }) 16 y.new }
 {
-    let mut v = 0;
-    while v < 16 {
+    for v in 0..16 {
         crate::mixing::store_lane(y, v, line[v], line[first + v]);
-        v += 1;
     }
 }
 

@@ -26,11 +26,9 @@ fn middle_block(a: usize, line: &[u32], y: &mut [u32; 32])
     requires { (32 ≤ length line.now) × (length y.old ≡ 32) }
     ensures { MiddleBlock a line.now 16 y.new }
 {
-    let mut v = 0;
-    while v < 16 {
+    for v in 0..16 {
         let z = fold_formulas::alternating::middle(a, line[v + 16]);
         crate::mixing::store_lane(y, v, z.re, z.im);
-        v += 1;
     }
 }
 
@@ -39,10 +37,8 @@ pub fn first_block(line: &[u32], y: &mut [u32; 32])
     requires { (32 ≤ length line.now) × (length y.old ≡ 32) }
     ensures { BlockOf (λ v. record { re = (lane_at line.now 0 v).re; im = 0 }) 16 y.new }
 {
-    let mut v = 0;
-    while v < 16 {
+    for v in 0..16 {
         crate::mixing::store_lane(y, v, line[v], 0);
-        v += 1;
     }
 }
 
@@ -54,11 +50,9 @@ pub fn short_line(m: u32, a: usize, line: &[u32], fold: &mut [u32])
 {
     let o = numbers::modulus(m);
     let mut y = [0u32; 32];
-    let mut t = 0;
-    while t < a {
+    for t in 0..a {
         short_block(o, a, line, t, &mut y);
         crate::mixing::put_place(&y, fold, t);
-        t += 1;
     }
 }
 
@@ -83,12 +77,10 @@ fn low_block(o: u32, from: &[u32], i: usize, j: usize, y: &mut [u32; 32])
     ensures { BlockOf (λ v. low_pair o (lane_at from.now i v) (lane_at from.now j v)) 16
         y.new }
 {
-    let mut v = 0;
-    while v < 16 {
+    for v in 0..16 {
         let a = apart(o, from, i, v, j, v + 16);
         let b = added(from, i, v + 16, j, v);
         crate::mixing::store_lane(y, v, a, b);
-        v += 1;
     }
 }
 
@@ -99,12 +91,10 @@ fn high_block(o: u32, from: &[u32], i: usize, j: usize, y: &mut [u32; 32])
     ensures { BlockOf (λ v. high_pair o (lane_at from.now i v) (lane_at from.now j v)) 16
         y.new }
 {
-    let mut v = 0;
-    while v < 16 {
+    for v in 0..16 {
         let a = apart(o, from, i, v, j, v + 16);
         let b = opposite(o, from, i, v + 16, j, v);
         crate::mixing::store_lane(y, v, a, b);
-        v += 1;
     }
 }
 
@@ -142,23 +132,10 @@ pub fn odd_sums(m: u32, a: usize, line: &[u32], y: &mut [u32; 32])
     requires line_len { (length line.now ≡ 32 * (a + 1)) × (length y.old ≡ 32) }
     ensures { OddSums m a line.now a y.new }
 {
-    clear(y);
-    let mut t = 0;
-    while t < a {
+    y[..16].fill(0);
+    for t in 0..a {
         let j = odd_place(a, t);
         add_imaginary(line, j, y);
-        t += 1;
-    }
-}
-
-fn clear(y: &mut [u32; 32])
-    requires { length y.old ≡ 32 }
-    ensures { (length y.new ≡ 32) × ((v : ℕ) → v < 16 → get_or y.new v 0 ≡ 0) }
-{
-    let mut v = 0;
-    while v < 16 {
-        y[v] = 0;
-        v += 1;
     }
 }
 
@@ -182,9 +159,7 @@ fn add_imaginary(from: &[u32], j: usize, y: &mut [u32; 32])
         ≡ get_or y.old v 0 + (lane_at from.now j v).im) }
 {
     let first = 32 * j + 16;
-    let mut v = 0;
-    while v < 16 {
-        y[v] = y[v] + from[first + v];
-        v += 1;
+    for v in 0..16 {
+        y[v] += from[first + v];
     }
 }

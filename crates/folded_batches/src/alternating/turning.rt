@@ -28,12 +28,10 @@ pub fn turn_places(
 {
     let step = 1440 / a;
     let mut y = [0u32; 32];
-    let mut s = 0;
-    while s < a {
+    for s in 0..a {
         let k = coefficients(m, direction, rotated, tan, step, a, s);
         crate::mixing::mixed_alone(m, k, fold, s, &mut y);
         crate::mixing::put_place(&y, fold, s);
-        s += 1;
     }
 }
 

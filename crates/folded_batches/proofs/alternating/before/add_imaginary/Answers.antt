@@ -1,0 +1,6 @@
+use Rattle.std.proofs.Common.{arith, ◌+◌, ap₂}
+use Rattle.folded_batches.proofs.AlternatingBlocks.{numbers_next, add_read}
+use Rattle.folded_batches.proofs.alternating.before.add_imaginary.Goals as goal
+
+pub loop-v-preserved : goal.loop-v-preserved
+loop-v-preserved c = numbers_next c.loop-v.invariant c.loop-v-test.true (ap₂ ◌+◌ (c.loop-v.invariant.kept _ (omega arith)) (add_read _ _ _))

@@ -17,7 +17,7 @@ use Rattle.numbers.specs.Bounds.{res}
 use Rattle.numbers.proofs.Residues.{res_ring}
 use Rattle.numbers.proofs.Parts.{re_value, im_value}
 use Rattle.numbers.proofs.RealValues.{real_add, real_mul, parts_value}
-use Rattle.numbers.proofs.Values.{value_path, pair_path}
+use Rattle.numbers.proofs.Values.{value_path}
 use Rattle.slices.proofs.Pairs.{eq_or_ne}
 use Rattle.fold_formulas.specs.FoldFormulas.{tangent}
 use Rattle.cell.specs.Volume.{over_i}
@@ -25,7 +25,6 @@ use Rattle.batches.specs.Lanes.{lane_at, UpTo, Good}
 use Rattle.batches.proofs.LaneLists.{lane_low}
 use Rattle.batches.proofs.PassingLanes.{up_of}
 use Rattle.folded_batches.specs.AlternatingLanes.{Filled, first_pair, FirstPut, cotangent, cosecant, Angled, FinishedLanes}
-use Rattle.folded_batches.proofs.AlternatingBlocks.{first_re}
 use Rattle.folded_batches.proofs.AlternatingTurning.{cot_is, csc_is}
 
 module _ (m : ℕ) where
@@ -76,10 +75,6 @@ module _ (m : ℕ) where
           place v lv (suc s) ls y e = subst (Good m (2 * prime m) (lane_at after (suc s) v))
               (ap (over_i m b) (ap (λ x. angled_value (suc s) (value_of m x)) (first.kept (suc s) v lv (λ q. omega arith)) ∙ ap (angled_value (suc s)) (sym e) ∙ finish_rest s y (real m (res m (get_or odd v 0)))))
               (turned.each (suc s) v ls lv)
-
-pub first_read : (odd fold : List ℕ) (v : ℕ) → record { re = get_or fold v 0 + get_or odd v 0; im = get_or odd v 0 } ≡ first_pair odd fold v
-unfolding first_pair
-first_read odd fold v = pair_path (ap (λ x. x + get_or odd v 0) (first_re fold v)) refl
 
 -- ---- the numbers stay low
 

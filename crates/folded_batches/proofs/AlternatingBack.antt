@@ -21,7 +21,7 @@ use Rattle.numbers.specs.Bounds.{res}
 use Rattle.numbers.proofs.Residues.{res_ring}
 use Rattle.numbers.proofs.Parts.{re_value, im_value}
 use Rattle.numbers.proofs.RealValues.{real_add, real_neg, real_mul, parts_value}
-use Rattle.numbers.proofs.Values.{value_path, pair_path, field_ring, i_times, value_by}
+use Rattle.numbers.proofs.Values.{value_path, field_ring, i_times, value_by}
 use Rattle.slices.proofs.Pairs.{eq_or_ne}
 use Rattle.fold_formulas.specs.FoldFormulas.{tangent}
 use Rattle.cell.specs.Volume.{times_i}
@@ -30,31 +30,10 @@ use Rattle.batches.specs.Lanes.{lane_at}
 use Rattle.batches.specs.Copying.{PutBlock}
 use Rattle.batches.proofs.Meaning.{apart_value}
 use Rattle.folded_batches.specs.AlternatingLanes.{BlockOf, Filled, LaneIs, cotangent, cosecant, together_by, Angled, twice_pair, FirstTaken, even_pair, odd_pair, whole_pair, end_place, EndPacked}
-use Rattle.folded_batches.proofs.MixedLanes.{read_re, read_im}
 use Rattle.folded_batches.proofs.AlternatingBlocks.{first_re}
 use Rattle.folded_batches.proofs.AlternatingTurning.{zero_res, cot_is, csc_is}
 
 -- ---- the blocks
-
-module _ (o : ℕ) (l : List ℕ) (i j v : ℕ) where
-  pub even_read : {a b : ℕ} → a ≡ get_or l (32 * i + v) 0 + get_or l (32 * j + v) 0 → b ≡ get_or l (32 * i + (v + 16)) 0 + (o - get_or l (32 * j + (v + 16)) 0)
-      → record { re = a; im = b } ≡ even_pair o (lane_at l i v) (lane_at l j v)
-  even_read ea eb = pair_path
-      (ea ∙ ap₂ (λ x y. x + y) (read_re l i v refl) (read_re l j v refl))
-      (eb ∙ ap₂ (λ x y. x + (o - y)) (read_im l i v refl) (read_im l j v refl))
-
-  pub odd_read : (t : ℕ) {a b : ℕ} → a ≡ get_or l (32 * i + (v + 16)) 0 + (o - get_or l (32 * j + (v + 16)) 0) → b ≡ (o - get_or l (32 * i + v) 0) + (o - get_or l (32 * j + v) 0)
-      → record { re = a; im = t + b } ≡ odd_pair o t (lane_at l i v) (lane_at l j v)
-  odd_read t ea eb = pair_path
-      (ea ∙ ap₂ (λ x y. x + (o - y)) (read_im l i v refl) (read_im l j v refl))
-      (ap (λ b. t + b) (eb ∙ ap₂ (λ x y. (o - x) + (o - y)) (read_re l i v refl) (read_re l j v refl)))
-
-pub twice_read : (o : ℕ) (l : List ℕ) (v : ℕ) {t : ℕ} → t ≡ get_or l (32 * 0 + v) 0 + (o - get_or l (32 * 0 + (v + 16)) 0) → record { re = t + t; im = 0 } ≡ twice_pair o l v
-unfolding twice_pair
-twice_read o l v {t} e = pair_path (ap₂ (λ x y. x + y) once once) refl
-  where
-    once : t ≡ (lane_at l 0 v).re + (o - (lane_at l 0 v).im)
-    once = e ∙ ap₂ (λ x y. x + (o - y)) (read_re l 0 v refl) (read_im l 0 v refl)
 
 module _ (o A : ℕ) (twice fold : List ℕ) (j v : ℕ) where
   pub whole_even : {k : ℕ} → k ≡ mate A ((j + 1) / 2) → j % 2 ≡ 0 → even_pair o (lane_at fold (j / 2) v) (lane_at fold k v) ≡ whole_pair o A twice fold j v

@@ -170,9 +170,6 @@ module _ {m A : ℕ} {line : List ℕ} where
   pub odd_room : {t : ℕ} {y : List ℕ} → IsModulus m → OddSums m A line t y → t ≤ 1440 → (v : ℕ) → v < 16 → get_or y v 0 ≤ 1073741823
   odd_room {t} is h l v lv = omega (arith, h.low v lv, mul-le-mul l (prime_most is))
 
-  pub odd_all : {t : ℕ} {y : List ℕ} → OddSums m A line t y → A ≤ t → t ≤ A → OddSums m A line A y
-  odd_all {t} {y} h l k = subst (λ n. OddSums m A line n y) (omega (arith, l, k)) h
-
 -- ---- pair 0 taken apart
 
 module _ {A : ℕ} {line d e y z : List ℕ} (pos : 0 < A) (middles : MiddleBlock A line 16 y) (far : PutBlock y 0 A line d)

@@ -6,7 +6,11 @@ ghost use Rattle.std.specs.Prelude.{◌≡◌, ℕ, ◌+◌, ◌*◌, ◌<◌, �
 ghost use Rattle.numbers.specs.Value.{IsModulus};
 ghost use Rattle.fold_formulas.specs.FoldFormulas.{stride, Tangents};
 ghost use Rattle.batches.specs.Lanes.{UpTo};
-ghost use Rattle.folded_batches.specs.AlternatingLanes.{BlockOf, first_pair, FirstPut, FinishedLanes};
+ghost use Rattle.folded_batches.specs.AlternatingLanes.{FirstPut, FinishedLanes};
+
+use crate::alternating::lanes::{fill_lanes, lane};
+use crate::mixing::put_place;
+use numbers::Pair;
 
 // The pass after the forward transform, in place, `odd` being the sums of the imaginary parts at the odd places.
 pub fn finish(m: u32, rotated: bool, tan: &[u32; 1440], a: usize, odd: &[u32; 32], fold: &mut [u32])
@@ -27,17 +31,12 @@ fn put_first(odd: &[u32; 32], fold: &mut [u32])
     ensures { FirstPut odd.now fold.old fold.new }
 {
     let mut y = [0u32; 32];
-    first_block(odd, fold, &mut y);
-    crate::mixing::put_place(&y, fold, 0);
-}
-
-fn first_block(odd: &[u32; 32], fold: &[u32], y: &mut [u32; 32])
-    requires { (32 ≤ length fold.now) × UpTo 500000000 fold.now
-        × ((v : ℕ) → v < 16 → get_or odd.now v 0 ≤ 500000000) × (length y.old ≡ 32) }
-    ensures { BlockOf (first_pair odd.now fold.now) 16 y.new }
-{
-    for v in 0..16 {
+    fill_lanes(&mut y, |v| {
         let b = odd[v];
-        crate::mixing::store_lane(y, v, fold[v] + b, b);
-    }
+        Pair {
+            re: lane(fold, 0, v).re + b,
+            im: b,
+        }
+    });
+    put_place(&y, fold, 0);
 }

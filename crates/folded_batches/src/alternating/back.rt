@@ -9,9 +9,13 @@
 ghost use Rattle.std.specs.Prelude.{◌≡◌, ℕ, ◌+◌, ◌*◌, ◌/◌, ◌<◌, ◌≤◌, get_or, length};
 ghost use Rattle.algebra.specs.lines.Folds.{mate};
 ghost use Rattle.numbers.specs.Value.{prime, IsModulus};
-ghost use Rattle.batches.specs.Lanes.{lane_at, UpTo};
-ghost use Rattle.folded_batches.specs.AlternatingLanes.{BlockOf, Filled, twice_pair, FirstTaken, even_pair};
-ghost use Rattle.folded_batches.specs.AlternatingLanes.{odd_pair, whole_pair, end_place, EndPacked};
+ghost use Rattle.batches.specs.Lanes.{UpTo};
+ghost use Rattle.folded_batches.specs.AlternatingLanes.{BlockOf, Filled, twice_pair, FirstTaken};
+ghost use Rattle.folded_batches.specs.AlternatingLanes.{whole_pair, end_place, EndPacked};
+
+use crate::alternating::lanes::{fill_lanes, lane};
+use crate::mixing::put_place;
+use numbers::Pair;
 
 // 2 M of each lane, and E(0) left at place 0.
 pub fn take_first(m: u32, fold: &mut [u32], twice: &mut [u32; 32])
@@ -20,20 +24,16 @@ pub fn take_first(m: u32, fold: &mut [u32], twice: &mut [u32; 32])
     ensures { FirstTaken m fold.old fold.new twice.new }
 {
     let o = 2 * numbers::modulus(m);
-    twice_block(o, fold, twice);
+    fill_lanes(twice, |v| {
+        let x = lane(fold, 0, v);
+        Pair {
+            re: 2 * (x.re + (o - x.im)),
+            im: 0,
+        }
+    });
     let mut y = [0u32; 32];
     crate::alternating::before::first_block(fold, &mut y);
-    crate::mixing::put_place(&y, fold, 0);
-}
-
-fn twice_block(o: u32, fold: &[u32], y: &mut [u32; 32])
-    requires { (o ≤ 604798) × (32 ≤ length fold.now) × UpTo o fold.now × (length y.old ≡ 32) }
-    ensures { BlockOf (twice_pair o fold.now) 16 y.new }
-{
-    for v in 0..16 {
-        let t = crate::alternating::before::apart(o, fold, 0, v, 0, v + 16);
-        crate::mixing::store_lane(y, v, t + t, 0);
-    }
+    put_place(&y, fold, 0);
 }
 
 // The places 0 .. A of the whole line, times N.
@@ -48,11 +48,11 @@ pub fn whole_line(m: u32, a: usize, twice: &[u32; 32], fold: &[u32], line: &mut 
     let mut y = [0u32; 32];
     for j in 0..a + 1 {
         whole_block(o, a, twice, fold, j, &mut y);
-        crate::mixing::put_place(&y, line, j);
+        put_place(&y, line, j);
     }
 }
 
-// Place j of it.
+// Place j of it: x + conj z of two places, or i (2 M - (x + conj z)).
 fn whole_block(o: u32, a: usize, twice: &[u32; 32], fold: &[u32], j: usize, y: &mut [u32; 32])
     requires o_bound { (o ≤ 154828288) × (0 < a) × (a ≤ 1440) × (j ≤ a) × UpTo o fold.now
         × ((v : ℕ) → v < 16 → get_or twice.now v 0 ≤ 500000000) }
@@ -62,9 +62,23 @@ fn whole_block(o: u32, a: usize, twice: &[u32; 32], fold: &[u32], j: usize, y: &
     let t = j / 2;
     let k = mate_of(a, (j + 1) / 2);
     if j % 2 == 0 {
-        even_block(o, fold, t, k, y);
+        fill_lanes(y, |v| {
+            let x = lane(fold, t, v);
+            let z = lane(fold, k, v);
+            Pair {
+                re: x.re + z.re,
+                im: x.im + (o - z.im),
+            }
+        });
     } else {
-        odd_block(o, twice, fold, t, k, y);
+        fill_lanes(y, |v| {
+            let x = lane(fold, t, v);
+            let z = lane(fold, k, v);
+            Pair {
+                re: x.im + (o - z.im),
+                im: twice[v] + ((o - x.re) + (o - z.re)),
+            }
+        });
     }
 }
 
@@ -76,35 +90,6 @@ fn mate_of(a: usize, t: usize) -> usize
     if t == 0 { 0 } else { a - t }
 }
 
-// x + conj y of the places i and j.
-fn even_block(o: u32, from: &[u32], i: usize, j: usize, y: &mut [u32; 32])
-    requires o_bound { (o ≤ 154828288) × UpTo o from.now × (length y.old ≡ 32) }
-    requires i_in_bounds { (32 * i + 32 ≤ length from.now) × (32 * j + 32 ≤ length from.now) }
-    ensures { BlockOf (λ v. even_pair o (lane_at from.now i v) (lane_at from.now j v)) 16
-        y.new }
-{
-    for v in 0..16 {
-        let a = crate::alternating::before::added(from, i, v, j, v);
-        let b = crate::alternating::before::apart(o, from, i, v + 16, j, v + 16);
-        crate::mixing::store_lane(y, v, a, b);
-    }
-}
-
-// i (2 M - (x + conj y)).
-fn odd_block(o: u32, twice: &[u32; 32], from: &[u32], i: usize, j: usize, y: &mut [u32; 32])
-    requires o_bound { (o ≤ 154828288) × UpTo o from.now × (length y.old ≡ 32)
-        × ((v : ℕ) → v < 16 → get_or twice.now v 0 ≤ 500000000) }
-    requires i_in_bounds { (32 * i + 32 ≤ length from.now) × (32 * j + 32 ≤ length from.now) }
-    ensures { BlockOf (λ v. odd_pair o (get_or twice.now v 0) (lane_at from.now i v)
-        (lane_at from.now j v)) 16 y.new }
-{
-    for v in 0..16 {
-        let a = crate::alternating::before::apart(o, from, i, v + 16, j, v + 16);
-        let b = crate::alternating::before::opposite(o, from, i, v, j, v);
-        crate::mixing::store_lane(y, v, a, twice[v] + b);
-    }
-}
-
 // X(0) is real, and its second number is free for the one number of X(A): the real part for an even A, and the
 // imaginary part for an odd one.
 pub fn pack(a: usize, line: &mut [u32])
@@ -112,20 +97,15 @@ pub fn pack(a: usize, line: &mut [u32])
     ensures { EndPacked a line.old line.new }
 {
     let mut y = [0u32; 32];
-    pack_block(end_place(a), line, &mut y);
-    crate::mixing::put_place(&y, line, 0);
-}
-
-fn pack_block(first: usize, line: &[u32], y: &mut [u32; 32])
-    requires { (32 ≤ length line.now) × (first + 16 ≤ length line.now) × (length y.old ≡ 32) }
-    ensures { BlockOf (λ v. record {
-      re = (lane_at line.now 0 v).re;
-      im = get_or line.now (first + v) 0;
-    }) 16 y.new }
-{
-    for v in 0..16 {
-        crate::mixing::store_lane(y, v, line[v], line[first + v]);
-    }
+    let end = end_place(a);
+    fill_lanes(&mut y, |v| {
+        let x = lane(line, 0, v);
+        Pair {
+            re: x.re,
+            im: line[end + v],
+        }
+    });
+    put_place(&y, line, 0);
 }
 
 // Where the one part of X(A) begins.

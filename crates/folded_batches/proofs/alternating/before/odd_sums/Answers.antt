@@ -11,4 +11,4 @@ pub add_imaginary-requires : goal.add_imaginary-requires
 add_imaginary-requires c = (up_as c.requires.modulus.2 (prime_most c.requires.modulus.0), omega arith, c.loop-t.invariant.long, odd_room c.requires.modulus.0 c.loop-t.invariant (omega arith))
 
 pub loop-t-preserved : goal.loop-t-preserved
-loop-t-preserved c = odd_next c.loop-t.invariant c.odd_place-j.ensures.0 c.requires.modulus.2 c.add_imaginary.ensures.0 c.add_imaginary.ensures.1
+loop-t-preserved c = odd_next c.loop-t.invariant c.odd_place.ensures.0 c.requires.modulus.2 c.add_imaginary.ensures.0 c.add_imaginary.ensures.1

@@ -1,6 +1,0 @@
-use Rattle.folded_batches.proofs.AlternatingBlocks.{block_next}
-use Rattle.folded_batches.proofs.AlternatingBack.{twice_read}
-use Rattle.folded_batches.proofs.alternating.back.twice_block.Goals as goal
-
-pub loop-v-preserved : goal.loop-v-preserved
-loop-v-preserved c = block_next c.loop-v.invariant c.loop-v-test.true c.store_lane.ensures (twice_read _ _ _ c.apart-t.ensures)

@@ -6,11 +6,10 @@ use mathlib.Core.List.{List, ◌++◌}
 use Prim.Native.Nat.{ℕ, ◌+◌, ◌*◌, ◌<◌, ◌≤◌}
 use native.Mathlib.Omega.{arith}
 use lib.ListN.{length, take, get_or-append}
-use lib.Seq.{length-take-le, get_or-take}
+use lib.Seq.{get_or-take}
 use Rattle.algebra.specs.ring.Ring.{residues, gauss}
 use Rattle.algebra.specs.lines.Kinds.{slots, Kind.alternating}
 use Rattle.algebra.proofs.ring.Laws.{along}
-use Rattle.numbers.specs.declared.Pair.{Pair}
 use Rattle.numbers.specs.Value.{prime, IsModulus, Value, ring, field, real, part, value_of, pair_of}
 use Rattle.numbers.specs.Bounds.{res, Small}
 use Rattle.numbers.proofs.Primes.{prime_pos, prime_most}
@@ -23,8 +22,6 @@ use Rattle.batches.specs.Lanes.{lane_at, UpTo}
 use Rattle.batches.specs.Groups.{Gathered, Scattered, LinesBelow}
 use Rattle.batches.proofs.DrivingLanes.{up_as}
 use Rattle.batches.proofs.GroupLaw.{group_law}
-use Rattle.batches.proofs.LaneLists.{lane_low}
-use Rattle.batches.proofs.PassingLanes.{up_of}
 use Rattle.batches.proofs.VolumeLanes.{pair_used, pair_unused}
 use Rattle.folded_batches.specs.FoldedGroups.{folded_stored, folded_lines}
 use Rattle.folded_batches.specs.AlternatingLanes.{LaneIs, Packed, SynthesisLanes, AnalysisLanes}
@@ -76,9 +73,6 @@ lane_taken : (l : List ℕ) (n : ℕ) {j v : ℕ} → j < n → v < 16 → lane_
 unfolding lane_at
 lane_taken l n {j} {v} lj lv = pair_path (get_or-take (32 * n) l (32 * j + v) 0 (omega arith)) (get_or-take (32 * n) l (32 * j + v + 16) 0 (omega arith))
 
-pub taken_reducible : {X : ℕ} (l : List ℕ) (n : ℕ) → UpTo X l → 32 * n ≤ length l → UpTo X (take (32 * n) l)
-taken_reducible {X} l n up fits = up_of (length-take-le (32 * n) l fits) (λ v j lv lj. subst (λ (x : Pair). (x.re ≤ X) × (x.im ≤ X)) (sym (lane_taken l n lj lv)) (lane_low up j v))
-
 module _ {m A : ℕ} {re im tan : List ℕ} {b : Bool} {c start stride lanes : ℕ} {volume line : List ℕ} (came : Gathered volume start stride lanes A line) (below : LinesBelow m start stride A lanes volume)
     (few : lanes ≤ 16) (wide : lanes ≤ stride) (fits : 2 * (start + A * stride + lanes) ≤ length volume + 2 * stride) {fold after : List ℕ} where
   pub synthesis_group : SynthesisLanes m b A re im tan line fold → Scattered m c fold start stride lanes A volume after → Holds m c (ring m).one
@@ -109,14 +103,3 @@ pub share_holds : (m N : ℕ) {one share c : ℕ} → one ≡ (res m 4294967296)
 share_holds m N {one} {share} eo es ec = record {
   is = res_by m ((ring m).mul (res m one) (res m share)) ec ∙ ap₂ (ring m).mul (res_by m (res m 4294967296) eo) (res_by m (part m N) es);
 }
-
--- by the direction
-module _ (m A : ℕ) (b : Bool) (re im tan : List ℕ) (start stride lanes : ℕ) (volume : List ℕ) {after : List ℕ} where
-  pub turned_zero : {direction : ℕ} → direction ≡ 0 → after ≡ folded_lines m 0 b A re im tan alternating start stride lanes volume → after ≡ folded_lines m direction b A re im tan alternating start stride lanes volume
-  turned_zero e h = subst (λ d. after ≡ folded_lines m d b A re im tan alternating start stride lanes volume) (sym e) h
-
-  pub turned_one : {direction : ℕ} → (direction ≡ 0 → ⊥) → direction < 2 → after ≡ folded_lines m 1 b A re im tan alternating start stride lanes volume → after ≡ folded_lines m direction b A re im tan alternating start stride lanes volume
-  turned_one {direction} e l h = subst (λ d. after ≡ folded_lines m d b A re im tan alternating start stride lanes volume) (sym (one direction e l)) h
-    where
-      one : (d : ℕ) → (d ≡ 0 → ⊥) → d < 2 → d ≡ 1
-      one d e l = omega (arith, e)

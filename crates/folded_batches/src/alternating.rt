@@ -4,7 +4,7 @@
 // line Y(t) = X(2t) + i X(2t + 1) is made by additions, the batch of short lines is transformed, and each place of it
 // is turned by its angle; the way back does these things in the other order. The last reduction, as the lines go back
 // into the volume, divides by N.
-pub mod lanes; // alternating/lanes.rt: a block, lane by lane
+mod lanes; // alternating/lanes.rt: a block, lane by lane
 pub mod before; // alternating/before.rt: before the forward transform
 pub mod after; // alternating/after.rt: after it
 pub mod turning; // alternating/turning.rt: each place by its angle

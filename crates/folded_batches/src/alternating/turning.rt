@@ -58,12 +58,10 @@ fn coefficients(
         } else {
             of_one(one, w.re, 0, w.im)
         }
+    } else if rotated {
+        of_one(0, numbers::neg(m, one), numbers::neg(m, w.im), w.re)
     } else {
-        if rotated {
-            of_one(0, numbers::neg(m, one), numbers::neg(m, w.im), w.re)
-        } else {
-            of_one(one, 0, numbers::neg(m, w.re), numbers::neg(m, w.im))
-        }
+        of_one(one, 0, numbers::neg(m, w.re), numbers::neg(m, w.im))
     }
 }
 
@@ -72,10 +70,10 @@ fn of_one(a1: u32, a2: u32, a3: u32, a4: u32) -> Mix
     ensures { result ≡ of_one a1 a2 a3 a4 }
 {
     Mix {
-        a1: a1,
-        a2: a2,
-        a3: a3,
-        a4: a4,
+        a1,
+        a2,
+        a3,
+        a4,
         b1: 0,
         b2: 0,
         b3: 0,

@@ -10,7 +10,7 @@ use borrow.Author.Tests.{lt-ltb, le-ltb}
 use lib.Dec.{ltb}
 use lib.ListN.{get_or, length, take}
 use lib.Seq.{length-take-le}
-use Rattle.algebra.specs.ring.Ring.{pow, dft}
+use Rattle.algebra.specs.ring.Ring.{Ops, pow, dft}
 use Rattle.algebra.specs.lines.Kinds.{Kind.hermitian}
 use Rattle.algebra.specs.lines.Folds.{fold1}
 use Rattle.algebra.proofs.ring.Laws.{along}

@@ -1,7 +1,7 @@
 -- The pass over a batch of packed Hermitian lines, before the short transform of synthesis and after that of analysis:
 -- each place of a lane with its mate.
 use Rattle.std.specs.Prelude.{◌≡◌, List, ℕ, zero, suc, ◌*◌, ◌-◌, ◌<◌, length}
-use Rattle.algebra.specs.ring.Ring.{pow}
+use Rattle.algebra.specs.ring.Ring.{Ops, pow}
 use Rattle.numbers.specs.Value.{prime, Value, Residue, ring, field, conj, i, real, part, half, value_of}
 use Rattle.fold_formulas.specs.FoldFormulas.{sum_and_difference}
 use Rattle.batches.specs.Lanes.{lane_at, Good}

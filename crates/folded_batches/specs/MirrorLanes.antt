@@ -1,7 +1,7 @@
 -- Symmetric and antisymmetric lines side by side (kinds 4 and 5), by the place `first` of the first value that is
 -- stored: 0 for a symmetric line, 1 for an antisymmetric one.
 use Rattle.std.specs.Prelude.{◌≡◌, ◌⊎◌, List, ℕ, zero, suc, ◌+◌, ◌*◌, ◌-◌, ◌<◌, ◌≤◌, get_or, length}
-use Rattle.algebra.specs.ring.Ring.{sum}
+use Rattle.algebra.specs.ring.Ring.{Ops, sum}
 use Rattle.numbers.specs.Value.{prime, Value, Residue, ring, field, i, real, half, part, value_of}
 use Rattle.numbers.specs.Bounds.{res, zero_pair}
 use Rattle.slices.specs.Pairs.{values_of}

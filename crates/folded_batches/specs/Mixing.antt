@@ -1,5 +1,6 @@
 -- Two values of each lane with coefficients that are held times 2^32.
 use Rattle.std.specs.Prelude.{◌≡◌, List, ℕ, ◌+◌, ◌*◌, ◌<◌, ◌≤◌, length}
+use Rattle.algebra.specs.ring.Ring.{Ops}
 use Rattle.numbers.specs.Value.{prime, Value, Residue, ring}
 use Rattle.batches.specs.Reduction.{Divided, Holds}
 use Rattle.batches.specs.Lanes.{lane_at}

@@ -3,6 +3,7 @@
 -- A row has 2 B + 2 numbers. Those of place j are the numbers 2 j and 2 j + 1 of the row, but for the second number of
 -- place 0, which is the number 1 or, in the packing of the stored factors, the number 2 B.
 use Rattle.std.specs.Prelude.{◌≡◌, ◌≢◌, ◌⊎◌, cond, List, ℕ, zero, suc, ◌+◌, ◌*◌, ◌-◌, ◌<◌, ltb, get_or, length}
+use Rattle.algebra.specs.ring.Ring.{Ops}
 use Rattle.numbers.specs.declared.Pair.{Pair}
 use Rattle.numbers.specs.Value.{Residue, field, real, value_of, pair_of}
 use Rattle.numbers.specs.Bounds.{zero_pair}

@@ -1,6 +1,7 @@
 -- 2^32 over twice the length.
 use borrow.Author.Rules.{rules}
 use Prim.Native.Nat.{◌*◌}
+use Rattle.algebra.specs.ring.Ring.{Ops}
 use Rattle.numbers.specs.Value.{part}
 use Rattle.numbers.specs.Bounds.{res}
 use Rattle.numbers.proofs.Residues.{below_by}

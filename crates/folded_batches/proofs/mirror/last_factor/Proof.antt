@@ -1,6 +1,7 @@
 -- 2^32/2, or 2^32/(2 N).
 use native.Mathlib.Omega.{arith}
 use mathlib.Core.Path.{◌≡◌}
+use Rattle.algebra.specs.ring.Ring.{Ops}
 use Rattle.numbers.specs.Value.{ring, half}
 use Rattle.numbers.specs.Bounds.{res}
 use Prim.Native.Nat.{◌*◌}

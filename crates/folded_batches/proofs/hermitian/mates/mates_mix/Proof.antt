@@ -1,6 +1,6 @@
 -- The parts of 1 + i e and 1 - i e.
 use native.Mathlib.Omega.{arith}
-use Rattle.algebra.specs.ring.Ring.{pow}
+use Rattle.algebra.specs.ring.Ring.{Ops, pow}
 use Rattle.numbers.specs.Value.{ring, field}
 use Rattle.numbers.specs.Bounds.{res}
 use Rattle.numbers.proofs.Residues.{below_by}

@@ -1,5 +1,6 @@
 -- 1 + i tau, and 1 - i tau or its negative, times 2^32.
 use native.Mathlib.Omega.{arith}
+use Rattle.algebra.specs.ring.Ring.{Ops}
 use Rattle.numbers.specs.Value.{prime, ring}
 use Rattle.numbers.specs.Bounds.{res}
 use Rattle.numbers.proofs.Residues.{below_by}

@@ -1,6 +1,7 @@
 -- Both places as they are, or both mirror images.
 use native.Mathlib.Omega.{arith}
 use mathlib.Core.Path.{refl}
+use Prim.Native.Nat.{◌-◌}
 use Rattle.numbers.proofs.Primes.{prime_most}
 use Rattle.batches.proofs.DrivingLanes.{up_as}
 use Rattle.folded_batches.proofs.MirrorShort.{short_near, short_even, short_odd}

@@ -5,23 +5,28 @@ use mathlib.Core.List.{List, [], ◌∷◌}
 use Prim.Native.Nat.{ℕ, ◌+◌, ◌*◌, ◌-◌, ◌<◌, ◌≤◌}
 use native.Mathlib.Nat.{not-suc-le-zero}
 use native.Mathlib.Omega.{arith}
-use lib.ListN.{get_or, set, length, length-set}
+use lib.ListN.{get_or, set, length, length-set, replicate, length-replicate}
 use lib.Seq.{get_or-set_same, get_or-set_other}
 use Rattle.algebra.specs.ring.Ring.{gauss, residues}
 use Rattle.algebra.proofs.ring.Solver.{ring, quote}
 use Rattle.numbers.specs.declared.Pair.{Pair}
-use Rattle.numbers.specs.Value.{prime, Value, field, value, value_of}
+use Rattle.numbers.specs.Value.{prime, IsModulus, Value, field, value, value_of}
 use Rattle.numbers.specs.Bounds.{zero_pair}
+use Rattle.numbers.proofs.Primes.{prime_most}
 use Rattle.numbers.proofs.Values.{pair_path, value_add, field_ring}
+use Rattle.slices.specs.Segments.{segment, set_segment}
 use Rattle.slices.proofs.Pairs.{eq_or_ne}
+use Rattle.slices.proofs.Segments.{length_segment}
 use Rattle.batches.specs.Reduction.{Zero}
 use Rattle.batches.specs.Copying.{PutBlock}
 use Rattle.batches.specs.Lanes.{lane_at, UpTo, Good}
 use Rattle.batches.specs.Groups.{PutLanes}
 use Rattle.batches.proofs.Meaning.{apart_value}
 use Rattle.batches.proofs.LaneLists.{lane_is}
+use Rattle.batches.proofs.DrivingLanes.{up_as}
 use Rattle.batches.proofs.VolumeLanes.{numbers_lane}
 use Rattle.folded_batches.specs.MirrorLanes.{Numbers, Raised, BlockOf, Places, twice}
+use Rattle.folded_batches.proofs.MixedLanes.{block_part, zero_lane}
 
 -- ---- number by number
 
@@ -64,9 +69,19 @@ module _ {f : ℕ → ℕ} where
       same = omega arith
 
 -- zeros were written
-pub cleared_place : {j : ℕ} {before after : List ℕ} → PutBlock [] 0 j before after → PutLanes (λ v. zero_pair) j 16 before after
-unfolding lane_at
-cleared_place h = record { long = h.long; new = h.new; kept = λ i v lv away. h.kept i v lv (λ q. omega (arith, away q)) }
+pub cleared_place : {ys : List ℕ} (j : ℕ) (l : List ℕ) → ys ≡ replicate (length (segment (32 * j) (32 * j + 32) l)) 0 → 32 * j + 32 ≤ length l
+    → PutLanes (λ v. zero_pair) j 16 l (set_segment (32 * j) (32 * j + 32) l ys)
+cleared_place {ys} j l e fits = record { long = h.long; new = λ v lv. h.new v lv ∙ zero_lane v lv; kept = λ i v lv away. h.kept i v lv (λ q. omega (arith, away q)) }
+  where
+    long : length (segment (32 * j) (32 * j + 32) l) ≡ 32
+    long = omega (arith, length_segment (32 * j) (32 * j + 32) l (omega arith) fits)
+
+    h : PutBlock (replicate 32 0) 0 j l (set_segment (32 * j) (32 * j + 32) l ys)
+    h = block_part j l (e ∙ ap (λ (n : ℕ). replicate n 0) long) fits (length-replicate {A = ℕ} 32 0)
+
+-- numbers up to the prime may be added
+pub low_numbers : {m : ℕ} {l : List ℕ} → IsModulus m → UpTo (prime m) l → UpTo 1073741823 l
+low_numbers is up = up_as up (omega (arith, prime_most is))
 
 -- ---- what a block stands for
 

@@ -40,7 +40,7 @@ use Rattle.fold_formulas.specs.FoldFormulas.{Frame, sigma, folded}
 use Rattle.folds.specs.FoldedLines.{mirror_kind, stored_count, whole_line, finished}
 use Rattle.folds.proofs.MirrorLine.{stored_length, forward_of, forward_list, back_list}
 use Rattle.folded_batches.specs.FoldedGroups.{folded_stored, folded_lines}
-use Rattle.folded_batches.specs.MirrorLanes.{Places, WholeLines, ClearedEnds, Unpacked, TurnedBatch, twice, twice_finished, mirror_scale}
+use Rattle.folded_batches.specs.MirrorLanes.{Places, WholeLines, PackedLines, ClearedEnds, Unpacked, TurnedBatch, twice, twice_finished, mirror_scale}
 use Rattle.folded_batches.proofs.MirrorBlocks.{good_as, zero_value}
 use Rattle.folded_batches.proofs.MirrorShort.{sigma_even, sigma_odd}
 
@@ -224,9 +224,9 @@ module _ (m : ℕ) (volume : List ℕ) (A start stride lanes : ℕ) (line : List
 pub lent_back : (A : ℕ) (l ys : List ℕ) → length l ≡ 32 * (A + 1) → length ys ≡ 32 * A → length (ys ++ drop (32 * A) l) ≡ 32 * (A + 1)
 lent_back A l ys long ylong = simp (length-append, length-drop) (omega arith)
 
-module _ {m A : ℕ} {F : (v j : ℕ) → Value m} {fold : List ℕ} where
-  pub short_low : length fold ≡ 32 * A → Places m (8 * prime m) F 0 A fold → UpTo (8 * prime m) fold
-  short_low long h = up_of long (λ v j lv lj. let g = h.each v j lv (omega arith) lj in (g.re, g.im))
+pub short_low : {m A first : ℕ} {line fold : List ℕ} → length fold ≡ 32 * A → PackedLines m A first line
+    → ((X : ℕ → ℕ → Value m) → WholeLines m A first line X → Places m (8 * prime m) (λ v. mirror_point (field m) (X v)) 0 A fold) → UpTo (8 * prime m) fold
+short_low long packed short = up_of long (λ v j lv lj. let g = (short _ packed.whole).each v j lv (omega arith) lj in (g.re, g.im))
 
 pub turned_low : {m A factors : ℕ} {W : Value m} {fold fold' : List ℕ} → UpTo (8 * prime m) fold → TransformedLanes m W factors A fold fold' → UpTo (360 * prime m) fold'
 turned_low {m} up h = up_as (h.low (8 * prime m) up) (omega (arith, mul-le-mul_left (32 * prime m) h.few))

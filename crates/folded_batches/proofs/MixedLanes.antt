@@ -5,7 +5,7 @@ use mathlib.Core.List.{List, [], ◌∷◌}
 use Prim.Native.Nat.{ℕ, ◌+◌, ◌*◌, ◌<◌, ◌≤◌}
 use native.Mathlib.Nat.{not-suc-le-zero}
 use native.Mathlib.Omega.{arith}
-use lib.ListN.{get_or, set, length}
+use lib.ListN.{get_or, set, length, replicate, get_or-replicate}
 use Rattle.algebra.specs.ring.Ring.{gauss}
 use Rattle.algebra.specs.ring.Ring as Gauss
 use Rattle.algebra.proofs.ring.Laws.{along}
@@ -14,14 +14,16 @@ use Rattle.algebra.proofs.ring.ResidueRing.{residue_add, residue_mul}
 use Rattle.numbers.specs.declared.Pair.{Pair}
 use Rattle.numbers.specs.Value.{prime, Value, Residue, field, conj, value, value_of}
 use Rattle.numbers.specs.Value as Value
-use Rattle.numbers.specs.Bounds.{res}
+use Rattle.numbers.specs.Bounds.{res, zero_pair}
 use Rattle.numbers.proofs.Residues.{res_ring}
-use Rattle.numbers.proofs.Values.{value_path}
-use Rattle.slices.proofs.Pairs.{eq_or_ne}
+use Rattle.numbers.proofs.Values.{pair_path, value_path}
+use Rattle.slices.specs.Segments.{set_segment}
+use Rattle.slices.proofs.Pairs.{eq_or_ne, lt_or_ge}
+use Rattle.slices.proofs.Segments.{get_or_before, length_set_segment, get_or_inside, get_d_after}
 use Rattle.batches.specs.Reduction.{Divided, Holds}
+use Rattle.batches.specs.Copying.{PutBlock}
 use Rattle.batches.specs.Lanes.{lane_at, put_lane, Good}
 use Rattle.batches.proofs.Meaning.{shift, cancel, divided_res, weighed_res}
-use Rattle.batches.proofs.Copies.{Copying, copying_next}
 use Rattle.batches.proofs.LaneLists.{length_lane, lane_same, lane_other}
 use Rattle.folded_batches.specs.declared.mixing.Mix.{Mix}
 use Rattle.folded_batches.specs.Mixing.{Mixed, MixedAlone, OnParts, Times, TimesConjugate}
@@ -53,9 +55,27 @@ pub stores_as : (y : List ℕ) (v a b : ℕ) → set (set y v a) (v + 16) b ≡ 
 unfolding put_lane
 stores_as y v a b = along (λ k. set (set y k a) (k + 16) b) v (32 * 0 + v) (omega arith)
 
--- a number more of a block that stands alone
-pub copying_first : {y : List ℕ} {j v : ℕ} {before d : List ℕ} → Copying y 0 j v before d → v < 32 → 32 * j + 32 ≤ length before → Copying y 0 j (v + 1) before (set d (32 * j + v) (get_or y v 0))
-copying_first {y} {j} {v} {before} {d} h lv fits = subst (Copying y 0 j (v + 1) before) (along (λ k. set d (32 * j + v) (get_or y k 0)) (32 * 0 + v) v (omega arith)) (copying_next h lv fits)
+-- a block that is copied to place j
+pub block_part : {y ys : List ℕ} (j : ℕ) (l : List ℕ) → ys ≡ y → 32 * j + 32 ≤ length l → length y ≡ 32 → PutBlock y 0 j l (set_segment (32 * j) (32 * j + 32) l ys)
+unfolding lane_at
+block_part {y} {ys} j l e fits long = record {
+  long = length_set_segment (32 * j) (32 * j + 32) l (omega arith) fits ys (omega (arith, ap length e));
+  new = λ v lv. pair_path (inside v _ _ (omega arith) refl (omega arith)) (inside (v + 16) _ _ (omega arith) (omega arith) (omega arith));
+  kept = λ i v lv other. pair_path (outside i v _ other (omega arith) refl) (outside i (v + 16) _ other (omega arith) (omega arith));
+}
+  where
+    inside : (u k n : ℕ) → u < 32 → k ≡ 32 * j + u → n ≡ u → get_or (set_segment (32 * j) (32 * j + 32) l ys) k 0 ≡ get_or y n 0
+    inside u k n lu at same = rw (at, same) (get_or_inside (32 * j) (32 * j + 32) l (omega arith) fits ys (omega (arith, ap length e)) u (omega arith) ∙ ap (λ x. get_or x u 0) e)
+
+    outside : (i u k : ℕ) → i ≢ j → u < 32 → k ≡ 32 * i + u → get_or (set_segment (32 * j) (32 * j + 32) l ys) k 0 ≡ get_or l k 0
+    outside i u k other lu at = ⊎_elim
+        (λ (lk : k < 32 * j). get_or_before (32 * j) (32 * j + 32) l (omega arith) fits ys k lk)
+        (λ (ge : 32 * j ≤ k). get_d_after (32 * j) (32 * j + 32) l (omega arith) fits ys (omega (arith, ap length e)) k (omega (arith, other)))
+        (lt_or_ge k (32 * j))
+
+pub zero_lane : (v : ℕ) → v < 16 → lane_at (replicate 32 0) 0 v ≡ zero_pair
+unfolding lane_at
+zero_lane v l = pair_path (get_or-replicate 32 (32 * 0 + v) 0 0 (omega arith)) (get_or-replicate 32 (32 * 0 + v + 16) 0 0 (omega arith))
 
 -- a block of which a lane more is written
 module _ (y : List ℕ) {z : List ℕ} {v : ℕ} (a b : ℕ) (long : length y ≡ 32) (lv : v < 16) (is : z ≡ put_lane y 0 v (record { re = a; im = b })) where

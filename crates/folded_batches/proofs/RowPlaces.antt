@@ -7,7 +7,7 @@ use Prim.Native.Nat.{ℕ, zero, suc, ◌+◌, ◌*◌, ◌-◌, ◌<◌, ◌≤�
 use native.Mathlib.Nat.{not-suc-le-zero}
 use native.Mathlib.Omega.{arith}
 use borrow.Author.Tests.{lt-ltb, le-ltb}
-use lib.ListN.{get_or, set, length, replicate, length-set, get_or-replicate}
+use lib.ListN.{get_or, set, length, replicate, length-set}
 use lib.Seq.{get_or-set_same, get_or-set_other}
 use Rattle.algebra.specs.ring.Ring.{Ops}
 use Rattle.numbers.specs.declared.Pair.{Pair}
@@ -20,6 +20,7 @@ use Rattle.batches.specs.Lanes.{lane_at}
 use Rattle.batches.specs.Groups.{PutLanes, ReducedPlace}
 use Rattle.batches.proofs.VolumeLanes.{reduced_pair, numbers_lane}
 use Rattle.folded_batches.specs.RowLanes.{second_of, SecondIn, row_pair, used_pair, GatheredRows, PutRows, ScatteredRows, ClosedRows}
+use Rattle.folded_batches.proofs.MixedLanes.{zero_lane}
 
 below_other : {i n : ℕ} → i < n + 1 → i ≢ n → i < n
 below_other l other = omega (arith, other)
@@ -162,10 +163,6 @@ pub put_done : (y : List ℕ) {width first second v lanes : ℕ} {before after :
 put_done y {width} {first} {second} {before = before} {after = after} h e = subst (λ n. PutRows (λ v. lane_at y 0 v) width first second n before after) e h
 
 -- ---- all places
-
-zero_lane : (v : ℕ) → v < 16 → lane_at (replicate 32 0) 0 v ≡ zero_pair
-unfolding lane_at
-zero_lane v l = pair_path (get_or-replicate 32 (32 * 0 + v) 0 0 (omega arith)) (get_or-replicate 32 (32 * 0 + v + 16) 0 0 (omega arith))
 
 -- numbers of a row that a store to other numbers leaves
 module _ {f : ℕ → Pair} {width first second lanes : ℕ} {before after : List ℕ} (p : PutRows f width first second lanes before after) (lf : first < width) (ls : second < width) where

@@ -32,12 +32,10 @@ pub fn mixed(m: u32, k: Mix, from: &[u32], i: usize, j: usize, y: &mut [u32; 32]
     requires i_in_bounds { (32 * i + 32 ≤ length from.now) × (32 * j + 32 ≤ length from.now) }
     ensures { Mixed m k from.now i j 16 y.new }
 {
-    let mut v = 0;
-    while v < 16 {
+    for v in 0..16 {
         let a = of_two(m, k.a1, k.a2, k.b1, k.b2, from, i, j, v);
         let b = of_two(m, k.a3, k.a4, k.b3, k.b4, from, i, j, v);
         store_lane(y, v, a, b);
-        v += 1;
     }
 }
 
@@ -47,12 +45,10 @@ pub fn mixed_alone(m: u32, k: Mix, from: &[u32], i: usize, y: &mut [u32; 32])
     requires i_in_bounds { 32 * i + 32 ≤ length from.now }
     ensures { MixedAlone m k from.now i 16 y.new }
 {
-    let mut v = 0;
-    while v < 16 {
+    for v in 0..16 {
         let a = of_one(m, k.a1, k.a2, from, i, v);
         let b = of_one(m, k.a3, k.a4, from, i, v);
         store_lane(y, v, a, b);
-        v += 1;
     }
 }
 
@@ -103,11 +99,7 @@ pub fn put_place(y: &[u32; 32], to: &mut [u32], j: usize)
     ensures { PutBlock y.now 0 j to.old to.new }
 {
     let place = 32 * j;
-    let mut v = 0;
-    while v < 32 {
-        to[place + v] = y[v];
-        v += 1;
-    }
+    to[place..place + 32].copy_from_slice(y);
 }
 
 // A number of place i: lane v has its numbers v and 16 + v.
@@ -128,6 +120,7 @@ pub fn store_lane(y: &mut [u32; 32], v: usize, a: u32, b: u32)
 }
 
 // c1 x1 + c2 x2 + c3 x3 + c4 x4 over 2^32.
+#[tactic(auto, using(numbers::proofs::Primes::prime_most))]
 fn four(m: u32, c1: u32, x1: u32, c2: u32, x2: u32, c3: u32, x3: u32, c4: u32, x4: u32) -> u32
     requires modulus { IsModulus m × (c1 ≤ prime m) × (c2 ≤ prime m) × (c3 ≤ prime m) × (c4 ≤ prime m) }
     requires x1_bound { (x1 ≤ 1073741823) × (x2 ≤ 1073741823) × (x3 ≤ 1073741823) × (x4 ≤ 1073741823) }

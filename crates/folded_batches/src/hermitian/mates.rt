@@ -34,11 +34,9 @@ pub fn mate_places<'a>(
 {
     let step = 1440 / b;
     let mut y = [0u32; 32];
-    let mut t = 0;
-    while t < b {
+    for t in 0..b {
         mate_place(m, direction, re, im, sre, sim, step, b, t, from, &mut y);
         crate::mixing::put_place(&y, to, t);
-        t += 1;
     }
 }
 

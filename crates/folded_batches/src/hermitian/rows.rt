@@ -16,10 +16,8 @@ pub fn gather(rows: &[u32], second: usize, b: usize, lanes: usize, d: &mut [u32]
     ensures { GatheredRows rows.now second b lanes b d.new }
 {
     let width = 2 * b + 2;
-    let mut j = 0;
-    while j < b {
+    for j in 0..b {
         gather_place(rows, width, 2 * j, second_of(second, j), lanes, d, j);
-        j += 1;
     }
 }
 
@@ -33,17 +31,16 @@ pub fn scatter(m: u32, c: u32, s: &[u32], second: usize, b: usize, lanes: usize,
 {
     let width = 2 * b + 2;
     let mut y = [0u32; 32];
-    let mut j = 0;
-    while j < b {
+    for j in 0..b {
         batches::gathering::reduce_place(m, c, s, j, &mut y);
         put_rows(&y, lanes, rows, width, 2 * j, second_of(second, j));
-        j += 1;
     }
     let zero = [0u32; 32];
     put_rows(&zero, lanes, rows, width, 2 * b + 1 - second, 2 * b + 1);
 }
 
 // The place of the second number of pair j of the packed line.
+#[tactic(auto, unfolding(crate::specs::RowLanes::second_of))]
 fn second_of(second: usize, j: usize) -> usize
     requires { j ≤ 1440 }
     ensures { result ≡ second_of second j }
@@ -66,8 +63,7 @@ fn gather_place(
     ensures { PutLanes (used_pair lanes (row_pair rows.now width first second)) j 16
         d.old d.new }
 {
-    let mut v = 0;
-    while v < lanes {
+    for v in 0..lanes {
         batches::gathering::store_lane(
             d,
             j,
@@ -75,11 +71,9 @@ fn gather_place(
             number(rows, width, v, first),
             number(rows, width, v, second),
         );
-        v += 1;
     }
-    while v < 16 {
+    for v in lanes..16 {
         batches::gathering::store_lane(d, j, v, 0, 0);
-        v += 1;
     }
 }
 
@@ -105,11 +99,9 @@ fn put_rows(
     ensures { PutRows (λ v. lane_at y.now 0 v) width first second lanes rows.old
         rows.new }
 {
-    let mut v = 0;
-    while v < lanes {
+    for v in 0..lanes {
         let row = v * width;
         rows[row + first] = y[v];
         rows[row + second] = y[v + 16];
-        v += 1;
     }
 }

@@ -28,11 +28,9 @@ pub fn finish<'a>(
         first (a + 1 - first) line.new }
 {
     let mut y = [0u32; 32];
-    let mut s = first;
-    while s < a + 1 - first {
+    for s in first..a + 1 - first {
         finish_place(m, tan, first, a, odds, fold, s, &mut y);
         crate::mixing::put_place(&y, line, s);
-        s += 1;
     }
 }
 
@@ -79,10 +77,8 @@ fn middle(m: u32, odds: &[u32; 32], fold: &[u32], y: &mut [u32; 32])
         + (2880 * prime m - 2 * get_or odds.now u 0))) 32 y.new }
 {
     let o = 2880 * numbers::modulus(m);
-    let mut u = 0;
-    while u < 32 {
+    for u in 0..32 {
         y[u] = 2 * (fold[u] + (o - 2 * odds[u]));
-        u += 1;
     }
 }
 

@@ -18,11 +18,9 @@ pub fn short_lines(m: u32, first: usize, a: usize, line: &[u32], fold: &mut [u32
         → Places m (8 * prime m) (λ v. mirror_point (field m) (X v)) 0 a fold.new }
 {
     let mut y = [0u32; 32];
-    let mut t = 0;
-    while t < a {
+    for t in 0..a {
         short_place(m, first, a, line, t, &mut y);
         crate::mixing::put_place(&y, fold, t);
-        t += 1;
     }
 }
 
@@ -54,10 +52,8 @@ pub fn odd_sums(m: u32, first: usize, a: usize, line: &[u32]) -> [u32; 32]
 {
     let mut odds = [0u32; 32];
     if first == 0 {
-        let mut t = 0;
-        while t < a {
+        for t in 0..a {
             crate::mirror::places::add_to(line, odd_place(a, t), &mut odds);
-            t += 1;
         }
     }
     odds

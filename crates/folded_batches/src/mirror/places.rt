@@ -13,10 +13,8 @@ pub fn add_places(from: &[u32], i: usize, j: usize, y: &mut [u32; 32])
     ensures { Numbers (λ u. get_or from.now (32 * i + u) 0 + get_or from.now (32 * j + u) 0)
         32 y.new }
 {
-    let mut u = 0;
-    while u < 32 {
+    for u in 0..32 {
         y[u] = crate::mixing::part(from, i, u) + crate::mixing::part(from, j, u);
-        u += 1;
     }
 }
 
@@ -29,10 +27,8 @@ pub fn subtract_places(m: u32, from: &[u32], i: usize, j: usize, y: &mut [u32; 3
         32 y.new }
 {
     let o = 2 * numbers::modulus(m);
-    let mut u = 0;
-    while u < 32 {
+    for u in 0..32 {
         y[u] = o - (from[32 * i + u] + from[32 * j + u]);
-        u += 1;
     }
 }
 
@@ -42,10 +38,8 @@ pub fn add_to(from: &[u32], j: usize, y: &mut [u32; 32])
         × UpTo 1073741823 y.old }
     ensures { Raised (λ u. get_or from.now (32 * j + u) 0) 32 y.old y.new }
 {
-    let mut u = 0;
-    while u < 32 {
-        y[u] = y[u] + crate::mixing::part(from, j, u);
-        u += 1;
+    for u in 0..32 {
+        y[u] += crate::mixing::part(from, j, u);
     }
 }
 
@@ -55,9 +49,5 @@ pub fn clear_place(to: &mut [u32], j: usize)
     ensures { PutLanes (λ v. zero_pair) j 16 to.old to.new }
 {
     let place = 32 * j;
-    let mut u = 0;
-    while u < 32 {
-        to[place + u] = 0;
-        u += 1;
-    }
+    to[place..place + 32].fill(0);
 }

@@ -8,9 +8,8 @@ use native.Mathlib.Nat.{mul-le-mul_left}
 use native.Mathlib.Omega.{arith}
 use borrow.Author.Tests.{lt-ltb, le-ltb}
 use lib.Dec.{ltb}
-use lib.ListN.{get_or, length, take}
-use lib.Seq.{length-take-le}
-use Rattle.algebra.specs.ring.Ring.{Ops, pow, dft}
+use lib.ListN.{get_or, length}
+use Rattle.algebra.specs.ring.Ring.{pow, dft}
 use Rattle.algebra.specs.lines.Kinds.{Kind.hermitian}
 use Rattle.algebra.specs.lines.Folds.{fold1}
 use Rattle.algebra.proofs.ring.Laws.{along}
@@ -296,12 +295,3 @@ module _ {m b : ℕ} {re im : List ℕ} (f : Frame m b re im) (lanes : ℕ) (few
 
     pub analysis_law : after ≡ folded_rows m 1 b re im tan lanes rows
     analysis_law = rows_law (folded_pair m 1 b re im tan) b lanes rows after long left.places.long each
-
--- ---- by direction
-
-pub prefix_long : (n : ℕ) (l : List ℕ) → n ≤ length l → length (take n l) ≡ n
-prefix_long n l h = length-take-le n l h
-
-pub directed_rows : (m b : ℕ) (re im : List ℕ) (lanes : ℕ) (rows : List ℕ) {d direction : ℕ} {after : List ℕ} → direction ≡ d → ((tan : List ℕ) → after ≡ folded_rows m d b re im tan lanes rows)
-    → (tan : List ℕ) → after ≡ folded_rows m direction b re im tan lanes rows
-directed_rows m b re im lanes rows {after = after} e h tan = subst (λ d. after ≡ folded_rows m d b re im tan lanes rows) (sym e) (h tan)

@@ -1,11 +1,8 @@
 -- Each place of a batch with its mate: the coefficients, one place, and the loop over the places.
 use mathlib.Core.Path.{◌≡◌, refl, sym, ◌∙◌, ap, subst}
-use mathlib.Core.Logic.{◌≢◌, ⊎_elim}
 use mathlib.Core.List.{List, [], ◌∷◌}
-use Prim.Native.Nat.{ℕ, zero, suc, ◌+◌, ◌*◌, ◌-◌, ◌<◌, ◌≤◌}
-use native.Mathlib.Nat.{not-suc-le-zero}
+use Prim.Native.Nat.{ℕ, zero, suc, ◌*◌, ◌-◌, ◌<◌}
 use native.Mathlib.Omega.{arith}
-use lib.ListN.{length}
 use Rattle.algebra.specs.ring.Ring.{pow, gauss, imag}
 use Rattle.algebra.proofs.ring.Solver.{ring, quote}
 use Rattle.algebra.proofs.fourier.Transform.{pow_mul}
@@ -14,16 +11,14 @@ use Rattle.numbers.specs.Value as Value
 use Rattle.numbers.specs.Bounds.{res}
 use Rattle.numbers.proofs.Residues.{res_ring}
 use Rattle.numbers.proofs.Values.{value_path, real_times, field_ring}
-use Rattle.slices.proofs.Pairs.{eq_or_ne}
 use Rattle.roots.specs.Table.{table_root}
 use Rattle.fold_formulas.specs.FoldFormulas.{stride, line_root, sum_and_difference}
 use Rattle.fold_formulas.proofs.hermitian.Forms.{sum_difference_parts}
 use Rattle.batches.specs.Reduction.{Holds}
 use Rattle.batches.specs.Lanes.{lane_at, Good}
-use Rattle.batches.specs.Copying.{PutBlock}
 use Rattle.folded_batches.specs.declared.mixing.Mix.{Mix}
 use Rattle.folded_batches.specs.Mixing.{Mixed, MixedAlone}
-use Rattle.folded_batches.specs.HermitianLanes.{end_for, own_factor, mate_factor, mated, ComplexMix, EndMix, MatedPlace, MatedLanes}
+use Rattle.folded_batches.specs.HermitianLanes.{end_for, own_factor, mate_factor, mated, ComplexMix, EndMix, MatedPlace}
 use Rattle.folded_batches.proofs.MixedLanes.{on_parts, alone_parts, mixed_conjugate_good}
 use Rattle.folded_batches.proofs.HeldNumbers.{held_negative, residue_most}
 
@@ -149,25 +144,3 @@ module _ (m direction A : ℕ) (w : Value m) where
 -- the power of the table at the place of e(t/N)
 pub line_power : (m A : ℕ) (re im : List ℕ) {step : ℕ} (t : ℕ) → step ≡ stride A → pow (field m) (table_root m re im) (step * t) ≡ pow (field m) (line_root m A re im) t
 line_power m A re im t h = ap (λ k. pow (field m) (table_root m re im) (k * t)) h ∙ pow_mul (field_ring m) (table_root m re im) (stride A) t
-
--- ---- all places
-
-module _ {m direction A : ℕ} {w : Value m} {l : List ℕ} where
-  pub mating_start : {d : List ℕ} → length d ≡ 32 * A → MatedLanes m direction A w l 0 d
-  mating_start e = record { long = e; each = λ t v lt. absurd (not-suc-le-zero lt) }
-
-  pub mating_next : {t : ℕ} {d e y : List ℕ} → MatedLanes m direction A w l t d → MatedPlace m direction A w l t y → PutBlock y 0 t d e → MatedLanes m direction A w l (t + 1) e
-  mating_next {t} {d} {e} {y} h p b = record { long = b.long ∙ h.long; each = each }
-    where
-      below : (s : ℕ) → s < t + 1 → s ≢ t → s < t
-      below s ls other = omega (arith, other)
-
-      each : (s v : ℕ) → s < t + 1 → v < 16 → Good m (2 * prime m) (lane_at e s v) (mated m direction A w (λ j. value_of m (lane_at l j v)) s)
-      each s v ls lv = ⊎_elim
-          (λ (q : s ≡ t). subst (λ k. Good m (2 * prime m) (lane_at e k v) (mated m direction A w (λ j. value_of m (lane_at l j v)) k)) (sym q)
-          (subst (λ x. Good m (2 * prime m) x (mated m direction A w (λ j. value_of m (lane_at l j v)) t)) (sym (b.new v lv)) (p.each v lv)))
-          (λ (other : s ≢ t). subst (λ x. Good m (2 * prime m) x (mated m direction A w (λ j. value_of m (lane_at l j v)) s)) (sym (b.kept s v lv other)) (h.each s v (below s ls other) lv))
-          (eq_or_ne s t)
-
-pub mating_done : {m direction A : ℕ} {w : Value m} {l : List ℕ} {t n : ℕ} {d : List ℕ} → MatedLanes m direction A w l t d → n ≤ t → MatedLanes m direction A w l n d
-mating_done h le = record { long = h.long; each = λ s v ls lv. h.each s v (omega arith) lv }

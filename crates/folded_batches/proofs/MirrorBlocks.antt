@@ -3,10 +3,8 @@ use mathlib.Core.Path.{◌≡◌, refl, sym, ◌∙◌, ap, ap₂, subst}
 use mathlib.Core.Logic.{◌≢◌, ⊎_elim}
 use mathlib.Core.List.{List, [], ◌∷◌}
 use Prim.Native.Nat.{ℕ, ◌+◌, ◌*◌, ◌-◌, ◌<◌, ◌≤◌}
-use native.Mathlib.Nat.{not-suc-le-zero}
 use native.Mathlib.Omega.{arith}
-use lib.ListN.{get_or, set, length, length-set, replicate, length-replicate}
-use lib.Seq.{get_or-set_same, get_or-set_other}
+use lib.ListN.{get_or, length, replicate, length-replicate}
 use Rattle.algebra.specs.ring.Ring.{gauss, residues}
 use Rattle.algebra.proofs.ring.Solver.{ring, quote}
 use Rattle.numbers.specs.declared.Pair.{Pair}
@@ -25,48 +23,13 @@ use Rattle.batches.proofs.Meaning.{apart_value}
 use Rattle.batches.proofs.LaneLists.{lane_is}
 use Rattle.batches.proofs.DrivingLanes.{up_as}
 use Rattle.batches.proofs.VolumeLanes.{numbers_lane}
-use Rattle.folded_batches.specs.MirrorLanes.{Numbers, Raised, BlockOf, Places, twice}
+use Rattle.folded_batches.specs.MirrorLanes.{Numbers, BlockOf, Places, twice}
 use Rattle.folded_batches.proofs.MixedLanes.{block_part, zero_lane}
 
 -- ---- number by number
 
 below_other : {i n : ℕ} → i < n + 1 → i ≢ n → i < n
 below_other l other = omega (arith, other)
-
-module _ {f : ℕ → ℕ} where
-  pub numbers_start : {y : List ℕ} → length y ≡ 32 → Numbers f 0 y
-  numbers_start e = record { long = e; is = λ u l. absurd (not-suc-le-zero l) }
-
-  pub numbers_next : {u : ℕ} {y : List ℕ} {x : ℕ} → Numbers f u y → u < 32 → x ≡ f u → Numbers f (u + 1) (set y u x)
-  numbers_next {u} {y} {x} h l e = record {
-    long = length-set y u x ∙ h.long;
-    is = λ i li. ⊎_elim
-        (λ (q : i ≡ u). ap (λ k. get_or (set y u x) k 0) q ∙ get_or-set_same y u x 0 (omega (arith, h.long)) ∙ e ∙ ap f (sym q))
-        (λ (other : i ≢ u). get_or-set_other y u i x 0 other ∙ h.is i (below_other li other))
-        (eq_or_ne i u);
-  }
-
-  pub numbers_done : {u : ℕ} {y : List ℕ} → Numbers f u y → 32 ≤ u → Numbers f 32 y
-  numbers_done h l = record { long = h.long; is = λ i li. h.is i (omega arith) }
-
-  pub raised_start : {y : List ℕ} → Raised f 0 y y
-  raised_start = record { long = refl; new = λ u l. absurd (not-suc-le-zero l); kept = λ u l. refl }
-
-  pub raised_next : {u : ℕ} {before y : List ℕ} {x : ℕ} → Raised f u before y → u < length before → x ≡ get_or y u 0 + f u → Raised f (u + 1) before (set y u x)
-  raised_next {u} {before} {y} {x} h l e = record {
-    long = length-set y u x ∙ h.long;
-    new = λ i li. ⊎_elim
-        (λ (q : i ≡ u). ap (λ k. get_or (set y u x) k 0) q ∙ get_or-set_same y u x 0 (omega (arith, h.long)) ∙ e ∙ ap (λ n. n + f u) (h.kept u (omega arith)) ∙ ap (λ k. get_or before k 0 + f k) (sym q))
-        (λ (other : i ≢ u). get_or-set_other y u i x 0 other ∙ h.new i (below_other li other))
-        (eq_or_ne i u);
-    kept = λ i li. get_or-set_other y u i x 0 (λ q. omega arith) ∙ h.kept i (omega arith);
-  }
-
-  pub raised_done : {u : ℕ} {before y : List ℕ} → Raised f u before y → 32 ≤ u → u ≤ 32 → Raised f 32 before y
-  raised_done {u} {before} {y} h l k = subst (λ n. Raised f n before y) same h
-    where
-      same : u ≡ 32
-      same = omega arith
 
 -- zeros were written
 pub cleared_place : {ys : List ℕ} (j : ℕ) (l : List ℕ) → ys ≡ replicate (length (segment (32 * j) (32 * j + 32) l)) 0 → 32 * j + 32 ≤ length l
@@ -161,9 +124,6 @@ module _ (m : ℕ) where
 -- ---- blocks to their places
 
 module _ {m X : ℕ} {F : (v j : ℕ) → Value m} {b : ℕ} where
-  pub places_start : {d : List ℕ} → Places m X F b b d
-  places_start = record { each = λ v j lv l k. absurd (omega (arith, l, k)) }
-
   pub places_next : {t : ℕ} {d e y : List ℕ} → Places m X F b t d → BlockOf m X (λ v. F v t) y → PutBlock y 0 t d e → Places m X F b (t + 1) e
   places_next {t} {d} {e} {y} h k p = record {
     each = λ v j lv l lj. ⊎_elim

@@ -1,7 +1,7 @@
 -- A group of symmetric or antisymmetric lines: what is gathered into the batch, folded there and scattered back is what the lines become one after the other.
 use mathlib.Core.Path.{◌≡◌, refl, sym, ◌∙◌, ap, ap₂, subst}
 use mathlib.Core.Bool.{false}
-use mathlib.Core.Logic.{◌≢◌, ◌⊎◌, inl, inr, ⊎_elim}
+use mathlib.Core.Logic.{◌⊎◌, inl, inr, ⊎_elim}
 use mathlib.Core.List.{List, [], ◌∷◌, ◌++◌}
 use Prim.Native.Nat.{ℕ, zero, suc, ◌+◌, ◌*◌, ◌-◌, ◌<◌, ◌≤◌}
 use native.Mathlib.Nat.{mul-le-mul_left}
@@ -25,13 +25,13 @@ use Rattle.numbers.proofs.Values.{pair_path, value_path, value_pair, field_ring,
 use Rattle.roots.specs.Table.{table_root}
 use Rattle.slices.specs.Pairs.{at, tab, values_of, list_of}
 use Rattle.slices.specs.Segments.{segment, set_segment}
-use Rattle.slices.proofs.Pairs.{eq_or_ne, lt_or_ge, at_tab, tab_cong}
+use Rattle.slices.proofs.Pairs.{lt_or_ge, at_tab, tab_cong}
 use Rattle.slices.proofs.Segments.{length_segment, get_or_segment, get_or_before, length_set_segment, get_or_inside, get_d_after}
 use Rattle.slices.proofs.Values.{values_list, list_cong}
 use Rattle.batches.specs.Reduction.{Holds}
 use Rattle.batches.specs.Lanes.{lane_at, line_in, UpTo}
 use Rattle.batches.specs.Transforms.{TransformedLanes}
-use Rattle.batches.specs.Groups.{lane_pair, PutLanes, Gathered, Scattered, LinesBelow}
+use Rattle.batches.specs.Groups.{lane_pair, Gathered, Scattered, LinesBelow}
 use Rattle.batches.proofs.DrivingLanes.{up_as}
 use Rattle.batches.proofs.PassingLanes.{up_of}
 use Rattle.batches.proofs.VolumeLanes.{pair_used, pair_unused}
@@ -50,23 +50,6 @@ pub slots_stored : (A first : ℕ) → first ≤ 1 → slots (mirror_kind first)
 slots_stored A first l = let e = stored_length A first l refl in omega (arith, e)
 
 -- ---- the places of the batch
-
--- both ends are cleared
-pub ends_cleared : {first A : ℕ} {line middle after : List ℕ} → PutLanes (λ v. zero_pair) 0 16 line middle → PutLanes (λ v. zero_pair) A 16 middle after → ClearedEnds first A line after
-ends_cleared {first} {A} {line} {middle} {after} h k = record { long = k.long ∙ h.long; ends = λ v j lv one. ⊎_elim (start v j lv) (end v j lv) }
-  where
-    end : (v j : ℕ) → v < 16 → j ≡ A → lane_at after j v ≡ zero_pair
-    end v j lv e = ap (λ i. lane_at after i v) e ∙ k.new v lv
-
-    start : (v j : ℕ) → v < 16 → j ≡ 0 → lane_at after j v ≡ zero_pair
-    start v j lv e = ⊎_elim
-        (λ (same : j ≡ A). end v j lv same)
-        (λ (other : j ≢ A). k.kept j v lv (λ q. absurd (other q)) ∙ ap (λ i. lane_at middle i v) e ∙ h.new v lv)
-        (eq_or_ne j A)
-
--- a symmetric line stores its ends
-pub ends_stored : {first A : ℕ} {line : List ℕ} → (first ≡ 1 → ⊥) → ClearedEnds first A line line
-ends_stored even = record { long = refl; ends = λ v j lv one. absurd (even one) }
 
 -- the stored places as a part of the batch
 module _ (A first : ℕ) (l : List ℕ) (one : first ≤ 1) (pos : 0 < A) (long : length l ≡ 32 * (A + 1)) where

@@ -118,16 +118,6 @@ module _ {m A first : ℕ} {line : List ℕ} where
         ∙ ap (λ n. sum (field m) n (λ t. X v (2 * t + 1))) (sym (add-one t));
   }
 
-  pub summing_done : {t : ℕ} {odds : List ℕ} → Summing m A first line t odds → t ≡ A → A ≤ 1440 → OddSums m A first line odds
-  summing_done {t} {odds} s e most = record {
-    long = s.long;
-    low = up_as s.low (omega (arith, mul-le-mul_left (prime m) few));
-    is = λ z X h v lv. s.is X h v lv ∙ ap (λ n. sum (field m) n (λ t. X v (2 * t + 1))) e;
-  }
-    where
-      few : t ≤ 1440
-      few = omega arith
-
   pub summing_low : {t : ℕ} {odds : List ℕ} → IsModulus m → Summing m A first line t odds → t ≤ 1440 → UpTo 1073741823 odds
   summing_low {t} is s few = up_as s.low (omega (arith, mul-le-mul_left (prime m) few, prime_most is))
 

@@ -3,9 +3,8 @@ use mathlib.Core.Path.{◌≡◌, refl, sym, ◌∙◌, ap, ap₂, subst}
 use mathlib.Core.Logic.{◌≢◌, ⊎_elim}
 use mathlib.Core.List.{List, [], ◌∷◌}
 use Prim.Native.Nat.{ℕ, ◌+◌, ◌*◌, ◌<◌, ◌≤◌}
-use native.Mathlib.Nat.{not-suc-le-zero}
 use native.Mathlib.Omega.{arith}
-use lib.ListN.{get_or, set, length, replicate, get_or-replicate}
+use lib.ListN.{get_or, length, replicate, get_or-replicate}
 use Rattle.algebra.specs.ring.Ring.{gauss}
 use Rattle.algebra.specs.ring.Ring as Gauss
 use Rattle.algebra.proofs.ring.Laws.{along}
@@ -38,22 +37,6 @@ read_re l i v e = e
 pub read_im : (l : List ℕ) (i v : ℕ) {x : ℕ} → x ≡ get_or l (32 * i + (v + 16)) 0 → x ≡ (lane_at l i v).im
 unfolding lane_at
 read_im l i v e = e ∙ along (λ k. get_or l k 0) (32 * i + (v + 16)) (32 * i + v + 16) (omega arith)
-
-pub four_as : {m : ℕ} (c1 c2 c3 c4 : ℕ) {x1 x2 x3 x4 y1 y2 y3 y4 r : ℕ} → x1 ≡ y1 → x2 ≡ y2 → x3 ≡ y3 → x4 ≡ y4
-    → Divided m (c1 * x1 + c2 * x2 + c3 * x3 + c4 * x4) r → Divided m (c1 * y1 + c2 * y2 + c3 * y3 + c4 * y4) r
-four_as {m} c1 c2 c3 c4 {r = r} e1 e2 e3 e4 h = subst (λ n. Divided m n r) (ap₂ ◌+◌ (ap₂ ◌+◌ (ap₂ ◌+◌ (ap (λ x. c1 * x) e1) (ap (λ x. c2 * x) e2)) (ap (λ x. c3 * x) e3)) (ap (λ x. c4 * x) e4)) h
-
-pub two_as : {m : ℕ} (c1 c2 : ℕ) {x1 x2 y1 y2 r : ℕ} → x1 ≡ y1 → x2 ≡ y2 → Divided m (c1 * x1 + c2 * x2) r → Divided m (c1 * y1 + c2 * y2) r
-two_as {m} c1 c2 {r = r} e1 e2 h = subst (λ n. Divided m n r) (ap₂ (λ x y. c1 * x + c2 * y) e1 e2) h
-
--- four products as the code holds them
-pub four_numbers : (c1 x1 c2 x2 c3 x3 c4 x4 : ℕ) {m p1 p2 p3 p4 r : ℕ} → p1 ≡ c1 * x1 → p2 ≡ c2 * x2 → p3 ≡ c3 * x3 → p4 ≡ c4 * x4 → Divided m (p1 + p2 + p3 + p4) r → Divided m (c1 * x1 + c2 * x2 + c3 * x3 + c4 * x4) r
-four_numbers c1 x1 c2 x2 c3 x3 c4 x4 {m} {r = r} e1 e2 e3 e4 h = subst (λ n. Divided m n r) (ap₂ ◌+◌ (ap₂ ◌+◌ (ap₂ ◌+◌ e1 e2) e3) e4) h
-
--- the two stores of a lane of a block
-pub stores_as : (y : List ℕ) (v a b : ℕ) → set (set y v a) (v + 16) b ≡ put_lane y 0 v (record { re = a; im = b })
-unfolding put_lane
-stores_as y v a b = along (λ k. set (set y k a) (k + 16) b) v (32 * 0 + v) (omega arith)
 
 -- a block that is copied to place j
 pub block_part : {y ys : List ℕ} (j : ℕ) (l : List ℕ) → ys ≡ y → 32 * j + 32 ≤ length l → length y ≡ 32 → PutBlock y 0 j l (set_segment (32 * j) (32 * j + 32) l ys)
@@ -96,9 +79,6 @@ abbrev im_sum : (k : Mix) (l : List ℕ) (i j : ℕ) → ℕ → ℕ
 im_sum k l i j v = k.a3 * (lane_at l i v).re + k.a4 * (lane_at l i v).im + k.b3 * (lane_at l j v).re + k.b4 * (lane_at l j v).im
 
 module _ {m : ℕ} {k : Mix} {l : List ℕ} {i j : ℕ} where
-  pub mixing_start : {y : List ℕ} → length y ≡ 32 → Mixed m k l i j 0 y
-  mixing_start e = record { long = e; re = λ v l. absurd (not-suc-le-zero l); im = λ v l. absurd (not-suc-le-zero l) }
-
   pub mixing_next : {v : ℕ} (a b : ℕ) (y : List ℕ) {z : List ℕ} → Mixed m k l i j v y → v < 16 → z ≡ put_lane y 0 v (record { re = a; im = b }) → Divided m (re_sum k l i j v) a → Divided m (im_sum k l i j v) b → Mixed m k l i j (v + 1) z
   mixing_next a b y h lv is ha hb = record {
     long = block_long y a b h.long lv is;
@@ -106,13 +86,7 @@ module _ {m : ℕ} {k : Mix} {l : List ℕ} {i j : ℕ} where
     im = block_new y a b h.long lv is (λ u x. Divided m (im_sum k l i j u) x.im) h.im hb;
   }
 
-  pub mixing_done : {v : ℕ} {y : List ℕ} → Mixed m k l i j v y → 16 ≤ v → Mixed m k l i j 16 y
-  mixing_done h l = record { long = h.long; re = λ u lu. h.re u (omega arith); im = λ u lu. h.im u (omega arith) }
-
 module _ {m : ℕ} {k : Mix} {l : List ℕ} {i : ℕ} where
-  pub alone_start : {y : List ℕ} → length y ≡ 32 → MixedAlone m k l i 0 y
-  alone_start e = record { long = e; re = λ v l. absurd (not-suc-le-zero l); im = λ v l. absurd (not-suc-le-zero l) }
-
   pub alone_next : {v : ℕ} (a b : ℕ) (y : List ℕ) {z : List ℕ} → MixedAlone m k l i v y → v < 16 → z ≡ put_lane y 0 v (record { re = a; im = b })
       → Divided m (k.a1 * (lane_at l i v).re + k.a2 * (lane_at l i v).im) a → Divided m (k.a3 * (lane_at l i v).re + k.a4 * (lane_at l i v).im) b → MixedAlone m k l i (v + 1) z
   alone_next a b y h lv is ha hb = record {
@@ -120,9 +94,6 @@ module _ {m : ℕ} {k : Mix} {l : List ℕ} {i : ℕ} where
     re = block_new y a b h.long lv is (λ u x. Divided m (k.a1 * (lane_at l i u).re + k.a2 * (lane_at l i u).im) x.re) h.re ha;
     im = block_new y a b h.long lv is (λ u x. Divided m (k.a3 * (lane_at l i u).re + k.a4 * (lane_at l i u).im) x.im) h.im hb;
   }
-
-  pub alone_done : {v : ℕ} {y : List ℕ} → MixedAlone m k l i v y → 16 ≤ v → MixedAlone m k l i 16 y
-  alone_done h l = record { long = h.long; re = λ u lu. h.re u (omega arith); im = λ u lu. h.im u (omega arith) }
 
 -- ---- what the result stands for
 

@@ -4,12 +4,10 @@ use mathlib.Core.Bool.{cond}
 use mathlib.Core.Logic.{◌≢◌, ⊎_elim}
 use mathlib.Core.List.{List}
 use Prim.Native.Nat.{ℕ, zero, suc, ◌+◌, ◌*◌, ◌-◌, ◌<◌, ◌≤◌}
-use native.Mathlib.Nat.{not-suc-le-zero}
 use native.Mathlib.Omega.{arith}
 use borrow.Author.Tests.{lt-ltb, le-ltb}
 use lib.ListN.{get_or, set, length, replicate, length-set}
 use lib.Seq.{get_or-set_same, get_or-set_other}
-use Rattle.algebra.specs.ring.Ring.{Ops}
 use Rattle.numbers.specs.declared.Pair.{Pair}
 use Rattle.numbers.specs.Value.{field, real, value_of, pair_of}
 use Rattle.numbers.specs.Bounds.{zero_pair}
@@ -17,24 +15,15 @@ use Rattle.numbers.proofs.Values.{pair_path}
 use Rattle.slices.proofs.Pairs.{eq_or_ne}
 use Rattle.slices.proofs.Rows.{row_inj}
 use Rattle.batches.specs.Lanes.{lane_at}
-use Rattle.batches.specs.Groups.{PutLanes, ReducedPlace}
+use Rattle.batches.specs.Groups.{ReducedPlace}
 use Rattle.batches.proofs.VolumeLanes.{reduced_pair, numbers_lane}
-use Rattle.folded_batches.specs.RowLanes.{second_of, SecondIn, row_pair, used_pair, GatheredRows, PutRows, ScatteredRows, ClosedRows}
+use Rattle.folded_batches.specs.RowLanes.{second_of, SecondIn, row_pair, used_pair, PutRows, ScatteredRows, ClosedRows}
 use Rattle.folded_batches.proofs.MixedLanes.{zero_lane}
 
 below_other : {i n : ℕ} → i < n + 1 → i ≢ n → i < n
 below_other l other = omega (arith, other)
 
 -- ---- the second number of a place
-
-pub second_first : (second : ℕ) {j : ℕ} → j ≡ 0 → second ≡ second_of second j
-unfolding second_of
-second_first second e = rw e
-
-pub second_other : (second j : ℕ) → (j ≡ 0 → ⊥) → 2 * j + 1 ≡ second_of second j
-unfolding second_of
-second_other second zero n = absurd (n refl)
-second_other second (suc j) n = refl
 
 module _ {b second : ℕ} (s : SecondIn b second) where
   pub second_low : (j : ℕ) → j < b → second_of second j < 2 * b + 2
@@ -53,9 +42,6 @@ module _ {b second : ℕ} (s : SecondIn b second) where
   second_apart zero (suc j) li lj n = λ q. ⊎_elim (λ (e : second ≡ 1). omega arith) (λ (e : second ≡ 2 * b). omega arith) s.is
   second_apart (suc i) zero li lj n = λ q. ⊎_elim (λ (e : second ≡ 1). omega arith) (λ (e : second ≡ 2 * b). omega arith) s.is
   second_apart (suc i) (suc j) li lj n = λ q. n (omega arith)
-
-  pub second_most : second ≤ 2 * b + 1
-  second_most = ⊎_elim (λ (e : second ≡ 1). omega arith) (λ (e : second ≡ 2 * b). omega arith) s.is
 
   -- the numbers that no place has
   module _ (pos : 0 < b) where
@@ -90,26 +76,6 @@ module _ (f : ℕ → Pair) {lanes v : ℕ} where
   unfolding used_pair
   lane_unused l = sym (ap (λ b. cond b (f v) zero_pair) (le-ltb v lanes l))
 
-module _ {rows : List ℕ} {second b lanes : ℕ} where
-  pub rows_start : {d : List ℕ} → length d ≡ 32 * b → GatheredRows rows second b lanes 0 d
-  rows_start e = record { long = e; each = λ j v l. absurd (not-suc-le-zero l) }
-
-  pub rows_next : {j : ℕ} {d e : List ℕ} {width first sec : ℕ} → GatheredRows rows second b lanes j d → width ≡ 2 * b + 2 → first ≡ 2 * j → sec ≡ second_of second j
-      → PutLanes (used_pair lanes (row_pair rows width first sec)) j 16 d e → GatheredRows rows second b lanes (j + 1) e
-  rows_next {j} {d} {e} {width} {first} {sec} h ew ef es p = record {
-    long = p.long ∙ h.long;
-    each = λ i v li lv. ⊎_elim
-        (λ (q : i ≡ j). ap (λ k. lane_at e k v) q ∙ p.new v lv ∙ numbers v ∙ ap (λ k. used_pair lanes (row_pair rows (2 * b + 2) (2 * k) (second_of second k)) v) (sym q))
-        (λ (other : i ≢ j). p.kept i v lv (λ q. absurd (other q)) ∙ h.each i v (below_other li other) lv)
-        (eq_or_ne i j);
-  }
-    where
-      numbers : (v : ℕ) → used_pair lanes (row_pair rows width first sec) v ≡ used_pair lanes (row_pair rows (2 * b + 2) (2 * j) (second_of second j)) v
-      numbers v = λ x. used_pair lanes (row_pair rows (ew x) (ef x) (es x)) v
-
-pub rows_done : {rows : List ℕ} {second b lanes j n : ℕ} {d : List ℕ} → GatheredRows rows second b lanes j d → n ≤ j → GatheredRows rows second b lanes n d
-rows_done h l = record { long = h.long; each = λ i v li lv. h.each i v (omega arith) lv }
-
 -- ---- scattering: one place
 
 row_kept : (a d : List ℕ) (width first second u : ℕ) → get_or a (u * width + first) 0 ≡ get_or d (u * width + first) 0 → get_or a (u * width + second) 0 ≡ get_or d (u * width + second) 0
@@ -118,9 +84,6 @@ unfolding row_pair
 row_kept a d width first second u e f = pair_path e f
 
 module _ (y : List ℕ) {width first second : ℕ} {before : List ℕ} where
-  pub put_start : PutRows (λ v. lane_at y 0 v) width first second 0 before before
-  put_start = record { long = refl; new = λ v l. absurd (not-suc-le-zero l); kept = λ k h. refl }
-
   module _ {v : ℕ} (d : List ℕ) (h : PutRows (λ v. lane_at y 0 v) width first second v before d) (lf : first < width) (ls : second < width) (n : first ≢ second) (inside : v * width + width ≤ length before) where
     stored : List ℕ
     stored = set (set d (v * width + first) (get_or y v 0)) (v * width + second) (get_or y (v + 16) 0)
@@ -156,12 +119,6 @@ module _ (y : List ℕ) {width first second : ℕ} {before : List ℕ} where
             (stored_other (u * width + first) (λ e. other (row_inj u v lf lf e).0) (λ e. other (row_inj u v lf ls e).0))
             (stored_other (u * width + second) (λ e. other (row_inj u v ls lf e).0) (λ e. other (row_inj u v ls ls e).0))
 
-    pub put_second : v * width + second < length (set d (v * width + first) (get_or y v 0))
-    put_second = omega (arith, h.long, length-set d (v * width + first) (get_or y v 0))
-
-pub put_done : (y : List ℕ) {width first second v lanes : ℕ} {before after : List ℕ} → PutRows (λ v. lane_at y 0 v) width first second v before after → v ≡ lanes → PutRows (λ v. lane_at y 0 v) width first second lanes before after
-put_done y {width} {first} {second} {before = before} {after = after} h e = subst (λ n. PutRows (λ v. lane_at y 0 v) width first second n before after) e h
-
 -- ---- all places
 
 -- numbers of a row that a store to other numbers leaves
@@ -172,9 +129,6 @@ module _ {f : ℕ → Pair} {width first second lanes : ℕ} {before after : Lis
       (p.kept (v * width + j) (λ u lu. (λ e. fj (row_inj u v lf lj e).1, λ e. sj (row_inj u v ls lj e).1)))
 
 module _ {m c : ℕ} {s : List ℕ} {second b lanes : ℕ} {before : List ℕ} where
-  pub spread_start : {d : List ℕ} → length d ≡ length before → ScatteredRows m c s second b lanes 0 before d
-  spread_start e = record { long = e; new = λ c₀ h j v l. absurd (not-suc-le-zero l) }
-
   module _ (in_row : SecondIn b second) where
     pub spread_next : {j : ℕ} {d e y : List ℕ} → ScatteredRows m c s second b lanes j before d → j < b → lanes ≤ 16 → ReducedPlace m c s j 32 y
         → PutRows (λ v. lane_at y 0 v) (2 * b + 2) (2 * j) (second_of second j) lanes d e → ScatteredRows m c s second b lanes (j + 1) before e

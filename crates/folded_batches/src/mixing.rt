@@ -53,6 +53,7 @@ pub fn mixed_alone(m: u32, k: Mix, from: &[u32], i: usize, y: &mut [u32; 32])
 }
 
 // One part of lane v of two places.
+#[tactic(auto, unfolding(batches::specs::Lanes::lane_at))]
 fn of_two(
     m: u32,
     c1: u32,
@@ -84,6 +85,7 @@ fn of_two(
 }
 
 // One part of lane v of one place.
+#[tactic(auto, unfolding(batches::specs::Lanes::lane_at))]
 fn of_one(m: u32, c1: u32, c2: u32, from: &[u32], i: usize, v: usize) -> u32
     requires modulus { IsModulus m × (c1 ≤ prime m) × (c2 ≤ prime m) }
     requires v_bound { (v < 16) × (32 * i + 32 ≤ length from.now) × UpTo 1073741823 from.now }
@@ -111,6 +113,7 @@ pub fn part(from: &[u32], i: usize, u: usize) -> u32
 }
 
 // The pair a + b i goes to lane v of the block.
+#[tactic(auto, unfolding(batches::specs::Lanes::put_lane))]
 pub fn store_lane(y: &mut [u32; 32], v: usize, a: u32, b: u32)
     requires { v < 16 }
     ensures { y.new ≡ put_lane y.old 0 v (record { re = a; im = b }) }

@@ -25,6 +25,7 @@ pub fn short_lines(m: u32, first: usize, a: usize, line: &[u32], fold: &mut [u32
 }
 
 // Place t of the short lines.
+#[tactic(auto, using(crate::proofs::MirrorBlocks::low_numbers))]
 fn short_place(m: u32, first: usize, a: usize, line: &[u32], t: usize, y: &mut [u32; 32])
     requires { IsModulus m × (first ≤ 1) × (t < a) × (length line.now ≡ 32 * (a + 1))
         × UpTo (prime m) line.now × (length y.old ≡ 32) }

@@ -1,6 +1,5 @@
 -- 2^32/2, or 2^32/(2 N).
 use Rattle.std.proofs.Common.{◌≡◌, ◌*◌, arith}
-use Rattle.algebra.specs.ring.Ring.{Ops}
 use Rattle.numbers.specs.Value.{ring, half}
 use Rattle.numbers.specs.Bounds.{res}
 use Rattle.numbers.proofs.Residues.{below_by}

@@ -1,5 +1,5 @@
 -- The law of the group (`group_folded`).
-use Rattle.std.proofs.Common.{ℕ, ◌+◌, ◌*◌, ◌≤◌, length, subst, arith}
+use Rattle.std.proofs.Common.{ℕ, ◌+◌, ◌*◌, ◌≤◌, length, subst}
 use Rattle.batches.specs.Groups.{LinesBelow}
 use Rattle.folded_batches.proofs.MirrorGroups.{slots_stored, packed_lane, part_long, unpacked_whole, unpacked_low, stored_low, group_folded}
 use Rattle.folded_batches.proofs.mirror.turn_lines.Goals as goal

@@ -1,22 +1,11 @@
 -- Both places as they are, or both mirror images.
 use Rattle.std.proofs.Common.{arith, refl}
-use Rattle.folded_batches.proofs.MirrorBlocks.{low_numbers}
 use Rattle.folded_batches.proofs.MirrorShort.{short_near, short_even, short_odd}
 use Rattle.folded_batches.proofs.mirror.before.short_place.Goals as goal
-
-pub add_places-requires : goal.add_places-requires
-add_places-requires c =
-    let p = c.requires in
-    (omega arith, omega arith, low_numbers p.0 p.4, p.5)
 
 pub returns-then-t-a : goal.returns-then-t-a
 returns-then-t-a c =
     (c.add_places.ensures.long, λ X h. short_near c.args.m h c.requires.4 c.args.t c.if-t-a.true c.add_places.ensures)
-
-pub add_places-requires-then-first-eq0 : goal.add_places-requires-then-first-eq0
-add_places-requires-then-first-eq0 c =
-    let p = c.requires in
-    (omega arith, omega arith, low_numbers p.0 p.4, p.5)
 
 pub returns-then-first-eq0 : goal.returns-then-first-eq0
 returns-then-first-eq0 c =

@@ -2,15 +2,13 @@
 use mathlib.Core.Path.{◌≡◌, refl, sym, ◌∙◌, ap}
 use mathlib.Core.Bool.{Bool, true, false}
 use mathlib.Core.List.{List}
-use Prim.Native.Nat.{ℕ, zero, suc, ◌+◌, ◌*◌, ◌-◌, ◌<◌}
-use mir.Syntax.{w64}
-use mir.Val.{Fits}
+use Prim.Native.Nat.{ℕ, zero, suc, ◌*◌, ◌-◌, ◌<◌}
 use native.Mathlib.Omega.{arith}
-use Rattle.algebra.specs.ring.Ring.{Ops, pow}
+use Rattle.algebra.specs.ring.Ring.{pow}
 use Rattle.algebra.specs.lines.Folds.{inner_times, fold1, back1}
 use Rattle.algebra.proofs.fourier.Transform.{pow_mul}
 use Rattle.numbers.specs.declared.Pair.{Pair}
-use Rattle.numbers.specs.Value.{Value, field, conj, i, half, value_of, pair_of, on_values}
+use Rattle.numbers.specs.Value.{Value, field, conj, i, value_of, pair_of, on_values}
 use Rattle.roots.specs.Table.{entry_at, table_root}
 use Rattle.numbers.proofs.Values.{value_by, field_ring, field_star}
 use Rattle.fold_formulas.specs.FoldFormulas.{stride, line_root, Frame, sum_and_difference, to_hermitian_value}
@@ -82,22 +80,6 @@ pub line_root_lem : (m A : ℕ) {re im : List ℕ} (d t : ℕ) → Frame m A re 
 line_root_lem m A {re} {im} d t f h l =
     f.table.entry (d * t) (omega (arith, stride_inside h f.divides l))
     ∙ ap pair_of (ap (λ k. pow (field m) (table_root m re im) (k * t)) h ∙ pow_mul (field_ring m) (table_root m re im) (stride A) t)
-
--- ---- the places
-
--- pair t of A pairs, and its mate
-pub pair_inside : {t A n : ℕ} → t < A → n ≡ 2 * A → 2 * t + 1 < n
-pair_inside l e = omega arith
-
-pub mate_inside : {t A n : ℕ} → (t ≡ 0 → ⊥) → t < A → n ≡ 2 * A → 2 * (A - t) + 1 < n
-mate_inside z l e = omega arith
-
--- a place of the first half of the tables
-pub place_fits : {k : ℕ} → k < 1440 → Fits w64 k
-place_fits l = omega arith
-
-pub place_inside : {k : ℕ} → k < 1440 → k < 2880
-place_inside l = omega arith
 
 -- ---- what the code holds, step by step
 

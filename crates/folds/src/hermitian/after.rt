@@ -29,10 +29,8 @@ pub fn unfold<'a>(
         (values_of m fold.now))) }
 {
     let step = 1440 / a;
-    let mut t = 0;
-    while t < a {
+    for t in 0..a {
         slices::store(out, t, unfold_at(m, re, im, anti, c, step, a, t, fold));
-        t += 1;
     }
 }
 

@@ -30,10 +30,8 @@ pub fn short_line<'a>(
         (to_hermitian m anti (values_of m line.now))) }
 {
     let step = 1440 / a;
-    let mut t = 0;
-    while t < a {
+    for t in 0..a {
         slices::store(out, t, short_at(m, re, im, anti, step, a, t, line));
-        t += 1;
     }
 }
 

@@ -1,11 +1,11 @@
--- The pairs below t are stored.
+-- t pairs of the line are stored.
 use Rattle.algebra.specs.lines.Folds.{back1}
 use Rattle.numbers.specs.Value.{conj, real, pair_of, on_values}
 use Rattle.numbers.specs.Bounds.{res}
-use Rattle.slices.specs.Pairs.{values_of}
-use Rattle.slices.specs.Filling.{FillingPairs}
 use Rattle.fold_formulas.specs.FoldFormulas.{line_root}
 use Rattle.folds.specs.FoldedLines.{from_hermitian}
+use Rattle.slices.specs.Pairs.{values_of}
+use Rattle.slices.specs.Filling.{FillingPairs}
 use Rattle.folds.proofs.hermitian.after.unfold.Given as goal
 
 abbrev pub invariant-loop-t : goal.invariant-loop-t

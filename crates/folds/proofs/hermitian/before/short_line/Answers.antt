@@ -1,5 +1,4 @@
--- A pair is stored after the other.
-use Rattle.std.proofs.Common.{arith}
+use native.Mathlib.Omega.{arith}
 use Rattle.slices.proofs.Filling.{filling_start, filling_next, filling_whole}
 use Rattle.folds.proofs.hermitian.before.short_line.Goals as goal
 
@@ -7,7 +6,7 @@ pub loop-t-init : goal.loop-t-init
 loop-t-init c = filling_start
 
 pub loop-t-preserved : goal.loop-t-preserved
-loop-t-preserved c = filling_next c.loop-t.invariant c.loop-t-test.true c.store.ensures c.short_at.ensures
+loop-t-preserved c = filling_next c.loop-t.invariant (omega arith) c.store.ensures c.short_at.ensures
 
 pub returns : goal.returns
 returns c = filling_whole c.loop-t.invariant (omega arith) c.requires.line_len.1

@@ -33,12 +33,3 @@ module _ (m : ℕ) where
   -- none is larger than the prime
   pub residue_most : (x : Residue m) {r : ℕ} → r ≡ x.val → r ≤ prime m
   residue_most x e = omega (arith, below_by m x e)
-
--- 2^32 times half of c
-pub half_held : (m : ℕ) (x : Residue m) {s c h r : ℕ} → s ≡ (res m 4294967296).val → c ≡ x.val → h ≡ ((Value.ring m).mul (half m) (res m c)).val → r ≡ ((Value.ring m).mul (res m s) (res m h)).val
-    → Holds m r ((Value.ring m).mul (half m) x)
-half_held m x {s} {c} {h} es ec eh er = record {
-  is =
-      res_by m ((Value.ring m).mul (res m s) (res m h)) er
-      ∙ ap₂ (Value.ring m).mul (res_by m (res m 4294967296) es) (res_by m ((Value.ring m).mul (half m) (res m c)) eh ∙ ap ((Value.ring m).mul (half m)) (res_by m x ec));
-}

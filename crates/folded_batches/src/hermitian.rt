@@ -12,9 +12,8 @@ ghost use Rattle.numbers.specs.Value.{prime, IsModulus};
 ghost use Rattle.slices.specs.Pairs.{Below};
 ghost use Rattle.lengths.specs.Admitted.{Factored};
 ghost use Rattle.fold_formulas.specs.FoldFormulas.{Frame};
-ghost use Rattle.batches.specs.Reduction.{ShiftedTable, Holds};
+ghost use Rattle.batches.specs.Reduction.{ShiftedTable};
 ghost use Rattle.folded_batches.specs.Rows.{folded_rows};
-ghost use Rattle.folded_batches.specs.HermitianLanes.{share_for};
 
 // What the rows become is what they become one after the other. `line` and `fold` are lent for the work.
 pub fn turn_rows<'a>(
@@ -119,19 +118,10 @@ fn analysis<'a>(
     ensures { (tan : List ℕ) → rows.new
         ≡ folded_rows m 1 b re.now im.now tan lanes rows.old }
 {
-    let c = last_factor(m, b);
+    // the mates make twice the line: 2^32 over twice the length
+    let c = crate::mirror::last_factor(m, 1, b);
     rows::gather(rows, 1, b, lanes, fold);
     batches::transform::transform(m, re, im, sre, sim, factors, b, fold, line);
     mates::mate_places(m, 1, re, im, sre, sim, b, fold, line);
     rows::scatter(m, c, line, 2 * b, b, lanes, rows);
-}
-
-// What the numbers of analysis are multiplied by as they are reduced: 2^32 over twice the length, since the mates make
-// twice the line.
-fn last_factor(m: u32, b: usize) -> u32
-    requires { IsModulus m × (0 < b) × (b ≤ 1440) }
-    ensures { (result < prime m) × Holds m result (share_for m 1 b) }
-{
-    let shift = batches::residues::shift(m);
-    numbers::mul(m, shift, numbers::halve(m, fold_formulas::share(m, b)))
 }

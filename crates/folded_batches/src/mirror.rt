@@ -125,8 +125,9 @@ fn turn_batch<'a>(
     crate::mirror::after::finish(m, tan, first, a, &odds, fold, line);
 }
 
-// What the numbers of a lane are multiplied by as they are reduced: 2^32 over 2, and in analysis over N as well.
-fn last_factor(m: u32, direction: u32, a: usize) -> u32
+// What the numbers of a lane are multiplied by as they are reduced, where the passes made twice the line: 2^32 over 2,
+// and in analysis over N as well.
+pub(crate) fn last_factor(m: u32, direction: u32, a: usize) -> u32
     requires { IsModulus m × (direction < 2) × (0 < a) × (a ≤ 1440) }
     ensures { (result < prime m) × Holds m result (mirror_scale m direction a) }
 {

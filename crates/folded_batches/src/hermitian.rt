@@ -70,6 +70,7 @@ pub fn turn_rows<'a>(
 }
 
 // Direction 0.
+#[tactic(auto, using(fold_formulas::proofs::Frames::half_divides))]
 fn synthesis<'a>(
     m: u32,
     re: &'a [u32; 2880],
@@ -98,6 +99,7 @@ fn synthesis<'a>(
 }
 
 // Direction 1.
+#[tactic(auto, using(fold_formulas::proofs::Frames::half_divides))]
 fn analysis<'a>(
     m: u32,
     re: &'a [u32; 2880],

@@ -22,6 +22,7 @@ ghost use Rattle.folded_batches.specs.MirrorLanes.{WholeLines, PackedLines, Clea
 ghost use Rattle.folded_batches.specs.MirrorLanes.{TurnedBatch, mirror_scale};
 
 // What the lines become is what they become one after the other.
+#[tactic(auto, using(crate::proofs::MirrorGroups::slots_stored))]
 pub fn turn_lines<'a>(
     m: u32,
     direction: u32,
@@ -95,6 +96,7 @@ fn clear_ends(first: usize, a: usize, line: &mut [u32])
 }
 
 // The pass before, the short transform and the pass after: in each lane twice the fold of its line.
+#[tactic(auto, using(fold_formulas::proofs::Frames::half_divides))]
 fn turn_batch<'a>(
     m: u32,
     first: usize,

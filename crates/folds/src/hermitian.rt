@@ -14,6 +14,7 @@ ghost use Rattle.fold_formulas.specs.FoldFormulas.{Frame, folded};
 ghost use Rattle.folds.specs.FoldedLines.{hermitian_kind};
 
 // The transform of a packed line of either kind, antihermitian where `anti` says so. `fold` and `work` are lent for the work.
+#[tactic(auto, using(fold_formulas::proofs::Frames::half_divides))]
 pub fn forward<'a>(
     m: u32,
     re: &'a [u32; 2880],
@@ -39,6 +40,7 @@ pub fn forward<'a>(
 }
 
 // The way back, with the tables of the conjugate root lent.
+#[tactic(auto, using(fold_formulas::proofs::Frames::half_divides))]
 pub fn inverse<'a>(
     m: u32,
     re: &'a [u32; 2880],

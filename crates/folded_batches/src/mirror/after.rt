@@ -35,6 +35,7 @@ pub fn finish<'a>(
 }
 
 // Place s. An antisymmetric line asks for neither end.
+#[tactic(auto, using(batches::proofs::DrivingLanes::up_as, numbers::proofs::Primes::prime_most))]
 fn finish_place<'a>(
     m: u32,
     tan: &'a [u32; 1440],

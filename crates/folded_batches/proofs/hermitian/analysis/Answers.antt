@@ -1,11 +1,7 @@
 -- Gathered, transformed, each place with its mate, and scattered (`HermitianRows`).
 use Rattle.std.proofs.Common.{arith}
-use Rattle.fold_formulas.proofs.Frames.{half_divides}
 use Rattle.folded_batches.proofs.HermitianRows.{rows_low, mates_low, rows_start_low, mates_fit, transformed_fit, analysis_law}
 use Rattle.folded_batches.proofs.hermitian.analysis.Goals as goal
-
-pub transform-requires-clause-factored : goal.transform-requires-clause-factored
-transform-requires-clause-factored c = (c.requires.frame.2, half_divides c.requires.frame.0)
 
 pub transform-requires-clause-line_len : goal.transform-requires-clause-line_len
 transform-requires-clause-line_len c =

@@ -1,7 +1,6 @@
 -- Gathered, each place with its mate, transformed and scattered (`HermitianRows`).
 use Rattle.numbers.specs.Bounds.{res}
 use Rattle.numbers.proofs.Residues.{below_by}
-use Rattle.fold_formulas.proofs.Frames.{half_divides}
 use Rattle.batches.proofs.LastReduction.{shift_holds}
 use Rattle.batches.proofs.GroupLaw.{transformed_low}
 use Rattle.folded_batches.proofs.HermitianRows.{rows_low, mates_low, rows_fit, mates_start_low, synthesis_law}
@@ -11,9 +10,6 @@ pub mate_places-requires-clause-from_len : goal.mate_places-requires-clause-from
 mate_places-requires-clause-from_len c =
     let p = c.requires in
     (c.gather.ensures.long, p.line_len.1, rows_fit p.frame.0.modulus (rows_low c.args.m p.lanes_bound.2 c.gather.ensures))
-
-pub transform-requires-clause-factored : goal.transform-requires-clause-factored
-transform-requires-clause-factored c = (c.requires.frame.2, half_divides c.requires.frame.0)
 
 pub transform-requires-clause-line_len : goal.transform-requires-clause-line_len
 transform-requires-clause-line_len c =

@@ -1,13 +1,9 @@
 -- The four passes (`batch_turned`).
 use Rattle.std.proofs.Common.{◌∙◌, ◌*◌, arith, length-take-le}
 use Rattle.roots.specs.Table.{table_root}
-use Rattle.fold_formulas.proofs.Frames.{half_divides}
 use Rattle.folds.specs.FoldedLines.{whole_line}
 use Rattle.folded_batches.proofs.MirrorGroups.{lent_back, short_low, turned_low, batch_turned}
 use Rattle.folded_batches.proofs.mirror.turn_batch.Goals as goal
-
-pub transform-requires-clause-factored : goal.transform-requires-clause-factored
-transform-requires-clause-factored c = (c.requires.frame.3, half_divides c.requires.frame.0)
 
 pub transform-requires-clause-line_len : goal.transform-requires-clause-line_len
 transform-requires-clause-line_len c =

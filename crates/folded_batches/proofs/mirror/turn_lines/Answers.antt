@@ -1,15 +1,8 @@
 -- The law of the group (`group_folded`).
-use Rattle.std.proofs.Common.{ℕ, ◌+◌, ◌*◌, ◌≤◌, length, subst}
+use Rattle.std.proofs.Common.{ℕ, subst}
 use Rattle.batches.specs.Groups.{LinesBelow}
 use Rattle.folded_batches.proofs.MirrorGroups.{slots_stored, packed_lane, part_long, unpacked_whole, unpacked_low, stored_low, group_folded}
 use Rattle.folded_batches.proofs.mirror.turn_lines.Goals as goal
-
-pub unpack-requires : goal.unpack-requires
-unpack-requires c =
-    let a = c.args in
-    let one = c.requires.frame.4 in
-    let p = c.requires.direction_bound in
-    (one, c.requires.frame.0.positive, p.1, p.4, p.2, subst (λ (n : ℕ). 2 * (a.start + n * a.stride + a.lanes) ≤ length a.volume.now + 2 * a.stride) (slots_stored a.a a.first one) c.requires.lanes_in_bounds.0)
 
 pub turn_batch-requires-clause-first_bound : goal.turn_batch-requires-clause-first_bound
 turn_batch-requires-clause-first_bound c =
@@ -35,11 +28,6 @@ scatter-requires-clause-modulus c =
     let lines = unpacked_whole a.m a.volume.now a.a a.start a.stride a.lanes _ f.0.positive a.first f.4 c.unpack.ensures in
     let turned = c.turn_batch.ensures (packed_lane a.volume.now a.a a.first a.start a.stride a.lanes) lines in
     (f.0.modulus, c.last_factor-c.ensures.0, p.4, p.5, part_long a.a a.first _ f.4 f.0.positive turned.long, stored_low a.m a.a a.first a.re.now a.im.now a.tan.now f.0 f.4 turned)
-
-pub scatter-requires-clause-lanes_in_bounds : goal.scatter-requires-clause-lanes_in_bounds
-scatter-requires-clause-lanes_in_bounds c =
-    let a = c.args in
-    subst (λ (n : ℕ). 2 * (a.start + n * a.stride + a.lanes) ≤ length a.volume.now + 2 * a.stride) (slots_stored a.a a.first c.requires.frame.4) c.requires.lanes_in_bounds.0
 
 pub returns : goal.returns
 returns c =

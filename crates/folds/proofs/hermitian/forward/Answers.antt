@@ -7,14 +7,10 @@ use Rattle.slices.specs.Pairs.{values_of}
 use Rattle.slices.proofs.Pairs.{fills_whole}
 use Rattle.slices.proofs.Values.{length_of_lem, below_of}
 use Rattle.fold_formulas.specs.FoldFormulas.{line_root, tangent}
-use Rattle.fold_formulas.proofs.Frames.{half_divides}
 use Rattle.folds.specs.FoldedLines.{to_hermitian}
 use Rattle.folds.proofs.hermitian.Forms.{fold_of}
 use Rattle.folds.proofs.HermitianLine.{forward_list}
 use Rattle.folds.proofs.hermitian.forward.Goals as goal
-
-pub transform-requires-clause-factored : goal.transform-requires-clause-factored
-transform-requires-clause-factored c = (c.requires.frame.1, half_divides c.requires.frame.0)
 
 pub transform-requires-clause-below : goal.transform-requires-clause-below
 transform-requires-clause-below c =

@@ -7,12 +7,8 @@ use Rattle.slices.specs.Pairs.{Below, values_of}
 use Rattle.slices.proofs.Pairs.{fills_whole}
 use Rattle.slices.proofs.Values.{below_of}
 use Rattle.fold_formulas.specs.FoldFormulas.{tangent}
-use Rattle.fold_formulas.proofs.Frames.{half_divides}
 use Rattle.folds.proofs.HermitianLine.{back_list}
 use Rattle.folds.proofs.hermitian.inverse.Goals as goal
-
-pub transform-requires-clause-factored : goal.transform-requires-clause-factored
-transform-requires-clause-factored c = (c.requires.frame.1, half_divides c.requires.frame.0)
 
 pub transform-requires-clause-below : goal.transform-requires-clause-below
 transform-requires-clause-below c =

@@ -1,14 +1,7 @@
 -- The two ends, and the places between.
 use Rattle.std.proofs.Common.{◌≡◌, arith, refl}
-use Rattle.numbers.proofs.Primes.{prime_most}
-use Rattle.batches.proofs.DrivingLanes.{up_as}
 use Rattle.folded_batches.proofs.MirrorFinish.{first_block, middle_block, between_block}
 use Rattle.folded_batches.proofs.mirror.after.finish_place.Goals as goal
-
-pub add_places-requires : goal.add_places-requires
-add_places-requires c =
-    let p = c.requires in
-    (omega arith, omega arith, up_as p.up_to.1 (omega (arith, prime_most p.modulus.0)), p.up_to.3)
 
 pub returns-then-s-eq0 : goal.returns-then-s-eq0
 returns-then-s-eq0 c =
@@ -22,11 +15,6 @@ returns-then-s-a c =
     let p = c.requires in
     let even : a.first ≡ 0 = omega arith in
     (c.middle.ensures.long, λ o sums. middle_block a.m a.a a.first a.tan.now a.fold.now o a.odds.now p.modulus.0 p.modulus.3 c.if-s-a.true p.up_to.1 p.up_to.0 (sums even) c.middle.ensures)
-
-pub mixed-requires-clause-modulus : goal.mixed-requires-clause-modulus
-mixed-requires-clause-modulus c =
-    let p = c.requires in
-    (p.modulus.0, c.coefficients-k.ensures.held, up_as p.up_to.1 (omega (arith, prime_most p.modulus.0)), p.up_to.3)
 
 pub returns : goal.returns
 returns c =

@@ -25,11 +25,8 @@ pub fn finish(m: u32, tan: &[u32; 1440], a: usize, odd: u32, fold: &[u32], line:
         (values_of m fold.now) (real m (res m odd))) }
 {
     let step = 1440 / a;
-    let mut s = 0;
-    while s < a {
-        let v = finish_at(m, tan, step, a, odd, fold, s);
-        slices::store(line, s, v);
-        s += 1;
+    for s in 0..a {
+        slices::store(line, s, finish_at(m, tan, step, a, odd, fold, s));
     }
 }
 
@@ -46,11 +43,8 @@ pub fn inverse_short_line(m: u32, tan: &[u32; 1440], a: usize, line: &[u32], fol
         (values_of m line.now)) }
 {
     let step = 1440 / a;
-    let mut s = 0;
-    while s < a {
-        let v = inverse_short_at(m, tan, step, a, line, s);
-        slices::store(fold, s, v);
-        s += 1;
+    for s in 0..a {
+        slices::store(fold, s, inverse_short_at(m, tan, step, a, line, s));
     }
 }
 
@@ -75,11 +69,8 @@ pub fn pack(m: u32, part: u32, twice: u32, a: usize, fold: &[u32], line: &mut [u
         (on_values m pack_b3 a
         (on_values m line3 a (real m (res m part)) (values_of m fold.now) (real m (res m twice)))) }
 {
-    let mut t = 0;
-    while t < a {
-        let v = pack_at(m, part, twice, a, fold, t);
-        slices::store(line, t, v);
-        t += 1;
+    for t in 0..a {
+        slices::store(line, t, pack_at(m, part, twice, a, fold, t));
     }
 }
 

@@ -21,11 +21,8 @@ pub fn short_line(m: u32, a: usize, line: &[u32], fold: &mut [u32])
     ensures { fold.new
         ≡ list_of a (alternating_point (field m) (i m) (on_values m unfold_b3 a (values_of m line.now))) }
 {
-    let mut t = 0;
-    while t < a {
-        let v = short_at(m, a, line, t);
-        slices::store(fold, t, v);
-        t += 1;
+    for t in 0..a {
+        slices::store(fold, t, short_at(m, a, line, t));
     }
 }
 
@@ -39,11 +36,8 @@ pub fn odd_imaginary_sum(m: u32, a: usize, line: &[u32]) -> u32
         (λ t. on_values m im (on_values m unfold_b3 a (values_of m line.now) (2 * t + 1)))) }
 {
     let mut s: u64 = 0;
-    let mut t = 0;
-    while t < a {
-        let v = value_at(m, a, line, 2 * t + 1);
-        s += v.im as u64;
-        t += 1;
+    for t in 0..a {
+        s += value_at(m, a, line, 2 * t + 1).im as u64;
     }
     numbers::reduce(m, s)
 }

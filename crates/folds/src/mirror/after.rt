@@ -32,15 +32,12 @@ pub fn finish(
         (λ p. finished m a first tan.now fold.now (value_of m o) (first + p)) }
 {
     let step = 1440 / a;
-    let n = a + 1 - 2 * first;
-    let mut p = 0;
-    while p < n {
+    for p in 0..a + 1 - 2 * first {
         slices::store(
             line,
             p,
             finish_at(m, tan, step, first, a, o, fold, first + p),
         );
-        p += 1;
     }
 }
 

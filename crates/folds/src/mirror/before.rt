@@ -22,10 +22,8 @@ pub fn short_line(m: u32, first: usize, a: usize, line: &[u32], fold: &mut [u32]
     ensures { fold.new
         ≡ list_of a (mirror_point (field m) (whole_line m a first line.now)) }
 {
-    let mut t = 0;
-    while t < a {
+    for t in 0..a {
         slices::store(fold, t, short_at(m, first, a, line, t));
-        t += 1;
     }
 }
 
@@ -40,10 +38,8 @@ pub fn odd_sum(m: u32, first: usize, a: usize, line: &[u32]) -> Pair
         return Pair { re: 0, im: 0 };
     }
     let mut s = numbers::zero_accumulator();
-    let mut t = 0;
-    while t < a {
+    for t in 0..a {
         s = plus(s, value_at(m, first, a, line, 2 * t + 1));
-        t += 1;
     }
     numbers::reduced(m, s)
 }

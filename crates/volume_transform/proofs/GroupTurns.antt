@@ -17,6 +17,7 @@ use Rattle.numbers.proofs.Residues.{res_by, res_ring}
 use Rattle.numbers.proofs.Values.{real_times}
 use Rattle.slices.specs.Pairs.{values_of, list_of, Below}
 use Rattle.slices.specs.Sweep.{sweep, on_lists}
+use Rattle.slices.proofs.Bounds.{small_at}
 use Rattle.slices.proofs.Pairs.{lt_or_ge}
 use Rattle.slices.proofs.Values.{list_cong}
 use Rattle.lengths.specs.Lengths.{kind_of}
@@ -28,7 +29,7 @@ use Rattle.batches.specs.Groups.{neighbours, scaled_transform, turned_lines}
 use Rattle.volume_transform.specs.Lines.{SoundLine, stored_turn, shifted, Kept, TablesFor}
 use Rattle.volume_transform.specs.Axes.{turned_row}
 use Rattle.volume_transform.specs.Plans.{Fitting, plan_turn}
-use Rattle.volume_transform.specs.Groups.{GatheredGroup, RowGroup, SpacedLines, RowLines, PlacedGroup, rows_from, lines_turn, rows_turn, group_turned, scale_for}
+use Rattle.volume_transform.specs.Groups.{GatheredGroup, RowGroup, SpacedLines, RowLines, PlacedGroup, PlainLines, rows_from, lines_turn, rows_turn, group_turned, scale_for}
 use Rattle.volume_transform.specs.Turns.{turns}
 use Rattle.volume_transform.specs.declared.plan.Plan.{Plan}
 use Rattle.volume_transform.specs.declared.plan.Line.{Line}
@@ -169,10 +170,20 @@ module _ (x : Line) {lanes : ℕ} {v : List ℕ} where
 pub beyond_two : (kind : ℕ) → (kind ≡ 0 → ⊥) → (kind ≡ 1 → ⊥) → (kind ≡ 2 → ⊥) → 2 < kind
 beyond_two kind a b c = omega arith
 
--- a plain line has a pair for each value
-pub plain_count : (x : Line) {lanes : ℕ} {v : List ℕ} → SpacedLines x lanes v → x.kind ≡ 0 → x.count ≡ 2 * x.half
+-- plain lines have a pair for each value, and in a volume of residues their numbers are residues
+pub plain_lines_of : (x : Line) {lanes : ℕ} {v : List ℕ} → SpacedLines x lanes v → x.kind ≡ 0 → PlainLines x lanes v
 unfolding slots
-plain_count x h e = h.counted ∙ ap (λ k. slots (kind_of k) x.half) e
+plain_lines_of x {lanes} {v} h e = record {
+  sound = h.sound;
+  plain = e;
+  unrotated = h.room.unrotated (λ k. omega (arith, k, e));
+  counted = h.counted ∙ ap (λ k. slots (kind_of k) x.half) e;
+  short = h.room.short e;
+  few = h.few;
+  wide = h.wide;
+  fits = h.fits;
+  below = record { each = λ u j lu lj. small_at _ v _ h.below };
+}
 
 -- ---- the scratch beyond its first 11,520 numbers
 

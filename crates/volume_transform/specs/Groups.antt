@@ -66,14 +66,6 @@ pub record GroupOfTurn (p : Plan) (n most : ℕ) (g : LineGroup) : Type 0 where
 
 -- ---- groups of plain lines alone
 
--- line number j and those after it are turned together: plain ones of one row, that a batch has room for
-pub record Batched (p : Plan) (j : ℕ) (x : Line) (lanes : ℕ) : Type 0 where
-  pub plain : x.kind ≡ 0
-  pub unrotated : x.rotated ≡ false
-  pub short : x.count ≤ 360
-  pub numbered : j < (along_l (plan_group p) (plan_halves p)).count + (along_h (plan_group p) (plan_halves p)).count
-  pub row : j % columns (plan_group p) (plan_halves p) + lanes ≤ columns (plan_group p) (plan_halves p)
-
 -- the lines of the turns from n on: that of turn n + v is x, v places further on
 pub record PlainGroup (p : Plan) (n : ℕ) (x : Line) (lanes : ℕ) : Type 0 where
   pub plain : x.kind ≡ 0

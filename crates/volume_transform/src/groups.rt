@@ -37,7 +37,7 @@ pub fn turn_placed_group<'a>(
     if line.kind == 1 {
         turn_rows(m, line, lanes, re, im, tan, sre, sim, volume, scratch, work);
     } else if line.kind == 0 {
-        turn_plain(m, line, lanes, re, im, tan, sre, sim, volume, scratch, work);
+        turn_group(m, line, lanes, re, im, tan, sre, sim, volume, scratch, work);
     } else {
         turn_folded(m, line, lanes, re, im, tan, sre, sim, volume, scratch, work);
     }
@@ -82,32 +82,6 @@ fn turn_rows<'a>(
         &mut scratch[..size],
         &mut work[..size],
     );
-}
-
-// Plain lines, at line.start, line.start + 1, ..
-fn turn_plain<'a>(
-    m: u32,
-    line: Line,
-    lanes: usize,
-    re: &'a [u32; 2880],
-    im: &'a [u32; 2880],
-    tan: &'a [u32; 1440],
-    sre: &'a [u32; 2880],
-    sim: &'a [u32; 2880],
-    volume: &mut [u32],
-    scratch: &mut [u32],
-    work: &mut [u32],
-)
-    requires spaced_lines { SpacedLines line lanes volume.old
-        × (line.kind ≡ 0)
-        × TablesFor line re.now im.now tan.now
-        × (m ≡ line.m) }
-    requires shifted_table { ShiftedTable m re.now im.now sre.now sim.now }
-    requires in_bounds { (11520 ≤ length scratch.old) × (11520 ≤ length work.old) }
-    ensures { (volume.new ≡ lines_turn line lanes volume.old)
-        × Kept scratch.old scratch.new }
-{
-    turn_group(m, line, lanes, re, im, tan, sre, sim, volume, scratch, work);
 }
 
 // As turn_placed_group, of plain lines alone, at line.start, line.start + 1, ..: of the volume's numbers it asks only that those of the

@@ -117,6 +117,7 @@ fn turn_volume<'a>(
     let counts = crate::axis_lines::line_counts(plan);
     let count = counts.l + counts.h + counts.k;
     let mut n = 0;
+    // each turn goes as many lines on as it finds side by side
     while n < count {
         let group = crate::numbering::group_of_turn(plan, counts, n, most);
         if 3 < group.lanes {

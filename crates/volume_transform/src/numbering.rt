@@ -8,7 +8,7 @@ ghost use Rattle.volume_transform.specs.Axes.{turned_l};
 ghost use Rattle.volume_transform.specs.Plans.{plan_group, plan_halves, Planned, Counted, line_turn, plan_numbers};
 ghost use Rattle.volume_transform.specs.Plans.{Gathered, LineAt};
 ghost use Rattle.volume_transform.specs.Groups.{Neighbours, RowsAfter, InBatch, SideBySide, GroupOfTurn};
-ghost use Rattle.volume_transform.specs.Groups.{Batched, GroupAt};
+ghost use Rattle.volume_transform.specs.Groups.{GroupAt};
 
 use crate::plan::{Counts, Line, LineGroup, Plan};
 
@@ -89,7 +89,7 @@ fn lines_left(plan: Plan, counts: Counts, j: usize) -> usize
     width - j % width
 }
 
-// As group_of_turn, of plain lines of one row alone: any other line is by itself.
+// As group_of_turn, of plain lines alone: any other line is by itself.
 pub fn group_in_turn(plan: Plan, counts: Counts, n: usize, most: usize) -> LineGroup
     requires { Planned plan
         × Counted plan counts
@@ -97,40 +97,12 @@ pub fn group_in_turn(plan: Plan, counts: Counts, n: usize, most: usize) -> LineG
         × (0 < most) }
     ensures { GroupAt plan n most result }
 {
-    let j = line_of_turn(plan, counts, n);
-    let line = line_at(plan, counts, j);
-    LineGroup {
-        line,
-        lanes: lanes_from(plan, counts, j, line, most),
+    let group = group_of_turn(plan, counts, n, most);
+    if group.line.kind == 0 {
+        group
+    } else {
+        LineGroup { lanes: 1, ..group }
     }
-}
-
-// As lanes_beside, of plain lines alone: how many there are to the end of the row of line number j, if a batch has room for them.
-fn lanes_from(plan: Plan, counts: Counts, j: usize, line: Line, most: usize) -> usize
-    requires { Planned plan
-        × Counted plan counts
-        × (j < line_count (plan_group plan) (plan_halves plan))
-        × (0 < most) }
-    ensures { (0 < result) × (result ≤ most) × (1 < result → Batched plan j line result) }
-{
-    if most == 1 {
-        return 1;
-    }
-    if line.kind != 0 {
-        return 1;
-    }
-    if line.rotated {
-        return 1;
-    }
-    if 360 < line.count {
-        return 1;
-    }
-    if counts.l + counts.h <= j {
-        return 1;
-    }
-    let width = (plan.cell.n2 / 2 + 1) as usize;
-    let left = width - j % width;
-    if left < most { left } else { most }
 }
 
 // Its number: analysis takes the axes in the other order.

@@ -21,47 +21,28 @@ pub fn turn_alone(line: Line, volume: &mut [u32], scratch: &mut [u32]) -> bool
         volume.old volume.new scratch.old scratch.new }
 {
     if line.m == 1 {
-        first_alone(line, volume, scratch)
+        alone_by::<1>(line, volume, scratch)
     } else {
-        second_alone(line, volume, scratch)
+        alone_by::<2>(line, volume, scratch)
     }
 }
 
-// With the tables of the first prime. A plain line needs no half tangents, and is lent zeros for them.
-fn first_alone(line: Line, volume: &mut [u32], scratch: &mut [u32]) -> bool
-    requires { Placed (length volume.old) line × (line.m ≡ 1) × (line.direction ≡ 0)
+// With the tables of prime number M. A plain line needs no half tangents, and is lent zeros for them.
+fn alone_by<const M: u32>(line: Line, volume: &mut [u32], scratch: &mut [u32]) -> bool
+    requires { Placed (length volume.old) line × (line.m ≡ M) × (line.direction ≡ 0)
         × (scratch_length ≤ length scratch.old) }
     ensures { OwnTurn (line_turned line) line result
         volume.old volume.new scratch.old scratch.new }
 {
-    let powers = roots::powers::first_powers();
+    let powers = roots::powers::table(M);
     let re = powers.re;
     let im = powers.im;
     if line.kind == 0 {
         let none = [0u32; 1440];
-        alone(1, line, &re, &im, &none, volume, scratch)
+        alone(M, line, &re, &im, &none, volume, scratch)
     } else {
-        let tan = roots::half_tangents::first_half_tangents();
-        alone(1, line, &re, &im, &tan, volume, scratch)
-    }
-}
-
-// With those of the second.
-fn second_alone(line: Line, volume: &mut [u32], scratch: &mut [u32]) -> bool
-    requires { Placed (length volume.old) line × (line.m ≡ 2) × (line.direction ≡ 0)
-        × (scratch_length ≤ length scratch.old) }
-    ensures { OwnTurn (line_turned line) line result
-        volume.old volume.new scratch.old scratch.new }
-{
-    let powers = roots::powers::second_powers();
-    let re = powers.re;
-    let im = powers.im;
-    if line.kind == 0 {
-        let none = [0u32; 1440];
-        alone(2, line, &re, &im, &none, volume, scratch)
-    } else {
-        let tan = roots::half_tangents::second_half_tangents();
-        alone(2, line, &re, &im, &tan, volume, scratch)
+        let tan = roots::half_tangents::half_tangents(M);
+        alone(M, line, &re, &im, &tan, volume, scratch)
     }
 }
 
@@ -84,52 +65,16 @@ fn alone<'a>(
         volume.old volume.new scratch.old scratch.new }
 {
     if line.half <= 60 {
-        let mut packed = [0u32; 240];
-        let mut work = [0u32; 240];
-        alone_in(
-            m,
-            line,
-            re,
-            im,
-            tan,
-            volume,
-            scratch,
-            &mut packed,
-            &mut work,
-        )
+        alone_in::<240>(m, line, re, im, tan, volume, scratch)
     } else if line.half <= 240 {
-        let mut packed = [0u32; 960];
-        let mut work = [0u32; 960];
-        alone_in(
-            m,
-            line,
-            re,
-            im,
-            tan,
-            volume,
-            scratch,
-            &mut packed,
-            &mut work,
-        )
+        alone_in::<960>(m, line, re, im, tan, volume, scratch)
     } else {
-        let mut packed = [0u32; 5760];
-        let mut work = [0u32; 5760];
-        alone_in(
-            m,
-            line,
-            re,
-            im,
-            tan,
-            volume,
-            scratch,
-            &mut packed,
-            &mut work,
-        )
+        alone_in::<5760>(m, line, re, im, tan, volume, scratch)
     }
 }
 
-// The line by its kind: a Hermitian one is a row.
-fn alone_in<'a>(
+// The line by its kind, with local arrays of N numbers: a Hermitian one is a row.
+fn alone_in<'a, const N: usize>(
     m: u32,
     line: Line,
     re: &'a [u32; 2880],
@@ -137,21 +82,31 @@ fn alone_in<'a>(
     tan: &'a [u32; 1440],
     volume: &mut [u32],
     scratch: &mut [u32],
-    packed: &mut [u32],
-    work: &mut [u32],
 ) -> bool
     requires placed { Placed (length volume.old) line
         × TablesFor line re.now im.now tan.now
         × (m ≡ line.m) }
     requires scratch_length_in_bounds { (scratch_length ≤ length scratch.old)
-        × (4 * line.half ≤ length packed.old) × (4 * line.half ≤ length work.old) }
+        × (4 * line.half ≤ N) × (N ≤ 5760) }
     ensures { OwnTurn (line_turned line) line result
         volume.old volume.new scratch.old scratch.new }
 {
+    let mut work = [0u32; N];
     if line.kind == 1 {
-        row_alone(m, line, re, im, tan, volume, scratch, work)
+        row_alone(m, line, re, im, tan, volume, scratch, &mut work)
     } else {
-        gathered_alone(m, line, re, im, tan, volume, scratch, packed, work)
+        let mut packed = [0u32; N];
+        gathered_alone(
+            m,
+            line,
+            re,
+            im,
+            tan,
+            volume,
+            scratch,
+            &mut packed,
+            &mut work,
+        )
     }
 }
 

@@ -1,22 +1,12 @@
 -- The place 0 has its own formula.
-use native.Mathlib.Omega.{arith}
 use Rattle.numbers.proofs.Values.{small_by}
 use Rattle.slices.proofs.Bounds.{small_of}
 use Rattle.folds.proofs.alternating.after.Passes.{finish_first, finish_rest}
 use Rattle.folds.proofs.alternating.after.finish_at.Goals as goal
 
-pub get-v-requires : goal.get-v-requires
-get-v-requires c = omega (arith, c.requires.step_value.2, c.requires.fold_len.0)
-
 pub add-requires : goal.add-requires
 add-requires c =
     (c.requires.modulus.0, (small_of c.args.fold.now _ c.get-v.ensures c.requires.fold_len.1).re, c.requires.modulus.2)
-
-pub angle-requires-clause-modulus : goal.angle-requires-clause-modulus
-angle-requires-clause-modulus c = (c.requires.modulus.0, c.requires.modulus.1)
-
-pub angle-requires-clause-step_value : goal.angle-requires-clause-step_value
-angle-requires-clause-step_value c = (c.requires.step_value.0, c.requires.step_value.1, omega arith, c.requires.step_value.2)
 
 pub scaled-b-requires : goal.scaled-b-requires
 scaled-b-requires c =

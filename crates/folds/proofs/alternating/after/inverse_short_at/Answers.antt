@@ -1,18 +1,7 @@
 -- The place 0 has its own formula.
-use native.Mathlib.Omega.{arith}
 use Rattle.slices.proofs.Bounds.{small_of}
-use Rattle.numbers.proofs.RealValues.{sum_small, product_small}
 use Rattle.folds.proofs.alternating.after.Back.{inverse_short_first, inverse_short_rest}
 use Rattle.folds.proofs.alternating.after.inverse_short_at.Goals as goal
-
-pub get-z-requires : goal.get-z-requires
-get-z-requires c = omega (arith, c.requires.step_value.2, c.requires.line_len.0)
-
-pub angle-of-requires-clause-modulus : goal.angle-of-requires-clause-modulus
-angle-of-requires-clause-modulus c = (c.requires.modulus.0, c.requires.modulus.1)
-
-pub angle-of-requires-clause-step_value : goal.angle-of-requires-clause-step_value
-angle-of-requires-clause-step_value c = (c.requires.step_value.0, c.requires.step_value.1, omega arith, c.requires.step_value.2)
 
 pub mul-along-requires : goal.mul-along-requires
 mul-along-requires c =
@@ -21,13 +10,6 @@ mul-along-requires c =
 pub mul-up-requires : goal.mul-up-requires
 mul-up-requires c =
     (c.requires.modulus.0, (small_of c.args.line.now _ c.get-z.ensures c.requires.line_len.1).im, c.angle-of.ensures.0.im)
-
-pub add-requires : goal.add-requires
-add-requires c =
-    (c.requires.modulus.0, product_small c.args.m _ _ c.mul-along.ensures, product_small c.args.m _ _ c.mul-up.ensures)
-
-pub neg-requires : goal.neg-requires
-neg-requires c = (c.requires.modulus.0, sum_small c.args.m _ _ c.add.ensures)
 
 pub returns-then-s-eq0 : goal.returns-then-s-eq0
 returns-then-s-eq0 c =

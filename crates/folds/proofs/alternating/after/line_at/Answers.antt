@@ -1,6 +1,5 @@
 -- A value and a mate's conjugate; at an odd place, i times what a real number exceeds them by.
 use mathlib.Core.Path.{◌∙◌, ap}
-use native.Mathlib.Omega.{arith}
 use Rattle.numbers.specs.Value.{pair_of}
 use Rattle.numbers.proofs.Primes.{prime_pos}
 use Rattle.numbers.proofs.Values.{small_by}
@@ -8,18 +7,6 @@ use Rattle.slices.specs.Pairs.{at}
 use Rattle.slices.proofs.Bounds.{small_of}
 use Rattle.folds.proofs.alternating.after.Back.{mate_even, mate_odd, folded_by, i_times_by, scaled_by, line_even, line_odd}
 use Rattle.folds.proofs.alternating.after.line_at.Goals as goal
-
-pub get-y-requires : goal.get-y-requires
-get-y-requires c = omega (arith, c.requires.modulus.3, c.requires.fold_len.0)
-
-pub overflow_add-j : goal.overflow_add-j
-overflow_add-j c = omega (arith, c.requires.modulus.3)
-
-pub mate_of-requires : goal.mate_of-requires
-mate_of-requires c = (omega (arith, c.requires.modulus.3), omega (arith, c.requires.modulus.3))
-
-pub get-requires : goal.get-requires
-get-requires c = omega (arith, c.mate_of.ensures.1, c.requires.fold_len.0)
 
 pub conjugate-c-requires : goal.conjugate-c-requires
 conjugate-c-requires c =

@@ -1,6 +1,6 @@
 -- The two ends, and the places between.
 use mathlib.Core.Path.{ap}
-use Prim.Native.Nat.{ℕ, ◌*◌, ◌<◌}
+use Prim.Native.Nat.{ℕ, ◌*◌}
 use native.Mathlib.Omega.{arith}
 use lib.ListN.{get_or}
 use Rattle.numbers.proofs.Values.{small_by}
@@ -20,14 +20,6 @@ difference-requires c =
 pub returns-then-s-a : goal.returns-then-s-a
 returns-then-s-a c =
     finished_middle _ _ c.args.first c.args.tan.now _ _ _ c.requires.a_nonzero.0 c.if-s-a.true c.sum-odds.ensures c.get-then-s-a.ensures c.difference.ensures
-
-pub overflow_mul-tau : goal.overflow_mul-tau
-overflow_mul-tau c =
-    let inside : c.args.step * c.args.s < 1440 = stride_inside c.requires.a_nonzero.1 c.requires.a_nonzero.2 (omega arith) in
-    omega arith
-
-pub bounds-tan-step : goal.bounds-tan-step
-bounds-tan-step c = stride_inside c.requires.a_nonzero.1 c.requires.a_nonzero.2 (omega arith)
 
 pub finish_between-requires : goal.finish_between-requires
 finish_between-requires c = (

@@ -4,7 +4,6 @@ use mathlib.Core.List.{List}
 use Prim.Native.Nat.{ℕ, zero, suc, ◌+◌, ◌*◌, ◌-◌, ◌/◌, ◌%◌, ◌<◌}
 use native.Mathlib.Omega.{arith}
 use Rattle.algebra.specs.ring.Ring.{Ops, pow, sum, dft}
-use Rattle.algebra.specs.ring.RingLaws.{Star}
 use Rattle.algebra.specs.lines.Kinds.{re, im, unit, interleave, pack_by, Kind.alternating, slots}
 use Rattle.algebra.specs.lines.Packings.{unfold_b3, pack_b3}
 use Rattle.algebra.specs.lines.Folds.{mate, csc, cot, alternating_point, finish3, alternating_spectrum, twice_M, line3}

@@ -4,7 +4,7 @@ use mathlib.Core.List.{List, [], ◌∷◌}
 use Prim.Native.Nat.{ℕ, zero, suc, ◌+◌, ◌*◌, ◌-◌, ◌/◌, ◌%◌}
 use native.Mathlib.Omega.{arith}
 use Rattle.algebra.specs.ring.Ring.{Ops}
-use Rattle.algebra.specs.ring.RingLaws.{CRing, Star}
+use Rattle.algebra.specs.ring.RingLaws.{CRing}
 use Rattle.algebra.specs.lines.Kinds.{re, im, unit, interleave, pack_by}
 use Rattle.algebra.specs.lines.Packings.{pack_b3}
 use Rattle.algebra.specs.lines.Folds.{mate, csc, cot, alternating_spectrum, twice_M, line3}

@@ -4,7 +4,6 @@ use mathlib.Core.List.{List}
 use Prim.Native.Nat.{ℕ, zero, suc, ◌*◌, ◌-◌, ◌<◌}
 use native.Mathlib.Omega.{arith}
 use lib.ListN.{get_or}
-use Rattle.algebra.specs.ring.Ring.{Ops}
 use Rattle.algebra.specs.lines.Kinds.{re, im}
 use Rattle.algebra.specs.lines.Folds.{csc, cot, finish3}
 use Rattle.numbers.specs.declared.Pair.{Pair}

@@ -3,8 +3,7 @@ use mathlib.Core.Path.{◌≡◌, sym, ◌∙◌, ap}
 use mathlib.Core.List.{List}
 use Prim.Native.Nat.{ℕ, suc, ◌+◌, ◌*◌, ◌-◌, ◌/◌, ◌%◌, ◌<◌}
 use native.Mathlib.Omega.{arith}
-use Rattle.algebra.specs.ring.Ring.{Ops}
-use Rattle.algebra.specs.lines.Kinds.{re, im, unit}
+use Rattle.algebra.specs.lines.Kinds.{unit}
 use Rattle.algebra.specs.lines.Packings.{unfold_b3}
 use Rattle.algebra.proofs.ring.Laws.{along}
 use Rattle.algebra.proofs.lines.Unfold.{unfold_zero, unfold_low, unfold_middle, read_even, read_odd}

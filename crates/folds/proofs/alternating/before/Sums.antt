@@ -4,7 +4,7 @@ use mathlib.Core.List.{List}
 use Prim.Native.Nat.{ℕ, ◌+◌, ◌*◌, ◌≤◌, ◌<◌}
 use native.Mathlib.Numerals.{add-one}
 use native.Mathlib.Omega.{arith}
-use Rattle.algebra.specs.ring.Ring.{Ops, sum, residues, gauss}
+use Rattle.algebra.specs.ring.Ring.{sum, residues, gauss}
 use Rattle.algebra.specs.lines.Kinds.{im}
 use Rattle.algebra.specs.lines.Packings.{unfold_b3}
 use Rattle.algebra.specs.lines.Folds.{alternating_point}

@@ -3,7 +3,7 @@ use borrow.Author.Rules.{rules}
 use mathlib.Core.Path.{◌∙◌}
 use Prim.Native.Nat.{◌*◌, ◌/◌}
 use native.Mathlib.Omega.{arith}
-use Rattle.algebra.specs.ring.Ring.{Ops, pow, dft}
+use Rattle.algebra.specs.ring.Ring.{pow, dft}
 use Rattle.algebra.specs.lines.Folds.{alternating_spectrum}
 use Rattle.numbers.specs.Value.{field, part, on_values}
 use Rattle.roots.specs.Table.{table_root}

@@ -83,10 +83,6 @@ module _ (m : ℕ) where
   pub by_values : {a b r : Pair} (f : Value m → Value m → Value m) (x y : Value m) → r ≡ pair_of (f (value_of m a) (value_of m b)) → a ≡ pair_of x → b ≡ pair_of y → r ≡ pair_of (f x y)
   by_values f x y h p q = h ∙ ap pair_of (ap₂ f (value_by m x p) (value_by m y q))
 
--- the two places that make place t of the fold
-pub pair_places : {t A : ℕ} → t < A → (0 < A) × (2 * t < 2 * A) × (2 * t + 1 < 2 * A)
-pair_places l = (omega arith, omega arith, omega arith)
-
 -- ---- the sum of the odd places
 
 -- a number that is its own negative is zero, where one half is there; the odd places of an antisymmetric line cancel in pairs

@@ -1,5 +1,5 @@
 -- Half the difference and half the sum of two half tangents of the table.
-use mathlib.Core.Path.{ap, refl}
+use mathlib.Core.Path.{ap}
 use Prim.Native.Nat.{◌*◌, ◌-◌, ◌<◌}
 use native.Mathlib.Omega.{arith}
 use lib.ListN.{get_or}

@@ -1,5 +1,4 @@
 -- s pairs of the short line are there.
-use Rattle.algebra.specs.ring.Ring.{Ops}
 use Rattle.algebra.specs.lines.Folds.{alternating_spectrum}
 use Rattle.numbers.specs.Value.{field, pair_of, on_values}
 use Rattle.fold_formulas.specs.FoldFormulas.{tangent}

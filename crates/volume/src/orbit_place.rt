@@ -15,14 +15,11 @@ pub fn orbit_place(cell: UnitCell, j: Index) -> usize
     ensures { (result ≡ orbit_place (cell_group cell) (cell_halves cell) (triple_of j))
         × (result < volume_length (cell_group cell) (cell_halves cell)) }
 {
-    let count = operations::operation_count(cell.group);
     // the length of the volume: every place is lower
     let mut place = 2 * places::pair_place(cell, places::layer_count(cell), 0, 0);
-    let mut number = 0;
-    while number < count {
+    for number in 0..operations::operation_count(cell.group) {
         let o = operations::operation_at(cell.group, number);
         place = lower_place(cell, operations::image(o, cell, j), place);
-        number += 1;
     }
     place
 }

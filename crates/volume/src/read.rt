@@ -19,16 +19,7 @@ pub fn run_below(r: Run, p: u32, volume: &[u32]) -> bool
     requires { r.first + r.count ≤ length volume.now }
     ensures { result ≡ all_below_at p volume.now (consecutive r.first r.count) }
 {
-    let first = r.first;
-    let count = r.count;
-    let mut i = 0;
-    while i < count {
-        if p <= volume[first + i] {
-            return false;
-        }
-        i += 1;
-    }
-    true
+    slices::buffers::all_below(&volume[r.first..r.first + r.count], p)
 }
 
 // The numbers that the factor at j is read from are below p.

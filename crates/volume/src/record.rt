@@ -19,18 +19,9 @@ pub fn write_images(m: u32, cell: UnitCell, j: Index, x: Pair, volume: &mut [u32
     ensures { volume.new
         ≡ record_on (cell_group cell) (cell_halves cell) m (triple_of j) (value_of m x) volume.old }
 {
-    let count = operations::operation_count(cell.group);
-    let mut number = 0;
-    while number < count {
-        write_image(
-            m,
-            operations::operation_at(cell.group, number),
-            cell,
-            j,
-            x,
-            volume,
-        );
-        number += 1;
+    for number in 0..operations::operation_count(cell.group) {
+        let o = operations::operation_at(cell.group, number);
+        write_image(m, o, cell, j, x, volume);
     }
 }
 

@@ -39,6 +39,29 @@ below_ends P b inner e = e ∙ same_test (P 0 && P b) (below (suc b) P)
     each t zero l = and_l (P 0) (P b) t
     each t (suc k) l = ⊎_elim (λ (e : suc k ≡ b). subst (λ q. T (P q)) (sym e) (and_r (P 0) (P b) t)) (λ (h : suc k < b). subst T (sym (inner (suc k) (omega arith) h)) tt) (eq-or-lt_of_le (omega arith))
 
+-- ---- a `for` over the numbers below n that returns false at the first that fails: `below k P ≡ true` is its invariant, b what the code
+-- found of k
+
+pub tested_none : (P : ℕ → Bool) → below 0 P ≡ true
+unfolding below
+tested_none P = refl
+
+pub tested_all : (P : ℕ → Bool) (k n : ℕ) → below k P ≡ true → n ≡ k → true ≡ below n P
+tested_all P k n s e = sym (ap (λ q. below q P) e ∙ s)
+
+module _ (P : ℕ → Bool) (k : ℕ) {b : Bool} (passed : below k P ≡ true) where
+  pub tested_next : b ≡ P k → b ≡ true → below (k + 1) P ≡ true
+  tested_next e t = below_step P k passed (sym e ∙ t)
+
+  -- k is the last, in a loop that goes on through its end
+  pub tested_last : (n : ℕ) → n ≡ k + 1 → b ≡ P k → b ≡ true → true ≡ below n P
+  tested_last n l e t = sym (ap (λ q. below q P) l ∙ tested_next e t)
+
+  pub tested_stop : (n : ℕ) → k < n → b ≡ P k → b ≡ false → false ≡ below n P
+  tested_stop n l e t = sym (below_stop P n k l (sym e ∙ t))
+
+pub ruleset tested = (tested_none, tested_all, tested_next, tested_last, tested_stop)
+
 -- The invariant of a loop over the numbers below n: those below k have passed.
 pub record Passing (P : ℕ → Bool) (n k : ℕ) : Type 0 where
   pub le : k ≤ n
@@ -103,6 +126,8 @@ module _ {S : Type 0} {l : List S} {d : S} {P : S → Bool} where
 
     pub members_done : length l ≤ k → true ≡ every l P
     members_done h = passing_done passing.members h ∙ every_below l d P
+
+pub ruleset tested_members = (members_next, members_stop, members_done)
 
 -- ---- the places of a volume, layer by layer and row by row
 

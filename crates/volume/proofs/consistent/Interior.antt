@@ -6,7 +6,7 @@ use Prim.Native.Nat.{ℕ, zero, suc, ◌*◌, ◌/◌, ◌≤◌, ◌<◌}
 use native.Mathlib.Omega.{arith}
 use lib.Dec.{T, leb, ltb, eqb}
 use borrow.Author.Tests.{le-ltb, lt-leb, eqb-true, eqb-false}
-use Rattle.algebra.specs.cells.Cell.{J, Sym, Sym.sym as op, friedel, Group, P1, P2₁, Pm, Pa, P2₁2₁2₁, span, image_of, flip, neg_i, every, stored_t}
+use Rattle.algebra.specs.cells.Cell.{J, Sym, Sym.sym as op, friedel, Group, P1, P2₁, Pm, Pa, P2₁2₁2₁, span, image_of, flip, neg_i, every}
 use Rattle.algebra.proofs.cells.CellAxis.{neg_pos}
 use Rattle.algebra.proofs.cells.CellTests.{stored_iff}
 use Rattle.cell.specs.Volume.{group_of}

@@ -2,7 +2,7 @@
 use mathlib.Core.Path.{◌≡◌, refl, sym, ◌∙◌, ap, subst}
 use mathlib.Core.Bool.{Bool, true, false, ◌&&◌}
 use mathlib.Core.List.{List}
-use Prim.Native.Nat.{ℕ, ◌*◌, ◌/◌, ◌<◌, ◌≤◌}
+use Prim.Native.Nat.{ℕ, ◌+◌, ◌*◌, ◌/◌, ◌%◌, ◌<◌, ◌≤◌}
 use native.Mathlib.Omega.{arith}
 use lib.ListN.{get_or}
 use lib.Dec.{T, leb, leb→le, ltb, ltb→lt, eqb}
@@ -23,9 +23,9 @@ use Rattle.cell.specs.declared.operations.UnitCell.{UnitCell}
 use Rattle.cell.specs.Operations.{cell_group, cell_halves, triple_of, Sizes, Within}
 use Rattle.cell.specs.TestSteps.{IsStored, same_pair, is_zero, image_agrees, point_image_agrees, empty_ends, empty_if_left_out, left_out_empty, row_agrees}
 use Rattle.cell.proofs.Tests.{true_iff}
-use Rattle.cell.proofs.LineKinds.{ends_left_out, odd_antisymmetric}
-use Rattle.cell.proofs.PlaceLaws.{odd_is}
-use Rattle.algebra.proofs.cells.Passing.{below_one, below_cong, by_rows}
+use Rattle.cell.proofs.LineKinds.{ends_left_out, odd_antisymmetric, even_other}
+use Rattle.cell.proofs.PlaceLaws.{even_is, odd_is}
+use Rattle.algebra.proofs.cells.Passing.{below_step, below_one, below_cong, by_rows}
 use Rattle.cell.proofs.VolumeLayout.{number_even, number_odd}
 use Rattle.cell.proofs.Reading.{same_iff, line_at}
 use Rattle.cell.proofs.OperationLaws.{by_group}
@@ -92,6 +92,22 @@ module _ (g : Group) (a : J) (v : List ℕ) (h n : ℕ) where
 
   pub ends_left : {r : Bool} → line_kind g h ≡ antisymmetric → r ≡ below n (λ k. empty_ends g a v h k) → r ≡ below n (λ k. empty_if_left_out g a v h k)
   ends_left e f = f ∙ below_cong n _ _ (λ k l. ap (λ K. imply (ltb 0 (first_pair K)) (empty_ends g a v h k)) (sym e))
+
+module _ (g : Group) (a : J) (v : List ℕ) where
+  abbrev pub row_empty : ℕ → Bool
+  row_empty h = below (columns g a) (λ k. empty_if_left_out g a v h k)
+
+  -- the rows before an odd h and what the code found of h; an even row has no such lines
+  pub odd_row : line_kind g 1 ≡ antisymmetric → (h : ℕ) → h % 2 ≡ 1 → line_kind g h ≡ antisymmetric
+  odd_row e h o = odd_antisymmetric g 1 h e (odd_is h (omega arith))
+
+  pub even_row : (h : ℕ) → h % 2 ≡ 0 → true ≡ row_empty h
+  even_row h z = has_ends g a v h (columns g a) (even_other g h (even_is h z))
+
+  pub two_rows : (h : ℕ) → h % 2 ≡ 1 → below h row_empty ≡ true → row_empty h ≡ true → below (h + 2) row_empty ≡ true
+  two_rows h o passed e =
+      subst (λ (q : ℕ). below q row_empty ≡ true) {x = h + 1 + 1} (omega arith)
+      (below_step row_empty (h + 1) (below_step row_empty h passed e) (sym (even_row (h + 1) (omega arith))))
 
 module _ (g : Group) (a : J) (m : ℕ) (v : List ℕ) where
   abbrev pub ends_test : Bool

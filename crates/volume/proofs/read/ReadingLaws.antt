@@ -1,14 +1,17 @@
 -- The factor at any index as the code reads it: beyond the stored half it is what the line's own operation implies, and above k = B the conjugate of its mate.
 use mathlib.Core.Path.{◌≡◌, refl, sym, ◌∙◌, ap, ap₂, subst}
 use mathlib.Core.Logic.{◌⊎◌, inl, inr, ⊎_elim}
-use mathlib.Core.Bool.{Bool, true, false, cond}
+use mathlib.Core.Bool.{Bool, true, false, ◌&&◌, cond}
 use mathlib.Core.List.{List}
-use Prim.Native.Nat.{ℕ, suc, ◌+◌, ◌*◌, ◌-◌, ◌<◌, ◌≤◌, min}
+use Prim.Native.Nat.{ℕ, zero, suc, ◌+◌, ◌*◌, ◌-◌, ◌<◌, ◌≤◌, min}
 use native.Mathlib.Omega.{arith}
-use lib.Dec.{leb}
+use native.Mathlib.Numerals.{add-one}
+use lib.Dec.{leb, ltb}
+use lib.ListN.{length, get_or, take, drop}
+use lib.Seq.{drop-cons}
 use borrow.Author.Tests.{ne_eqb, le-leb, lt-leb}
 use Rattle.algebra.specs.lines.Kinds.{Kind, Kind.alternating, Kind.symmetric, Kind.antisymmetric}
-use Rattle.algebra.specs.cells.Cell.{J, Inside, Sym, Group, P2₁, Pm, Pa, P2₁2₁2₁, neg_i, image_of, flip, span, implied_value}
+use Rattle.algebra.specs.cells.Cell.{J, Inside, Sym, Group, P2₁, Pm, Pa, P2₁2₁2₁, neg_i, image_of, flip, span, implied_value, every}
 use Rattle.algebra.specs.cells.CellPlaces.{line_sym}
 use Rattle.algebra.specs.cells.CellPack.{even}
 use Rattle.algebra.proofs.ring.Laws.{along}
@@ -17,7 +20,8 @@ use Rattle.numbers.specs.declared.Pair.{Pair}
 use Rattle.numbers.specs.Value.{field, conj, value_of, pair_of}
 use Rattle.numbers.proofs.Values.{value_by}
 use Rattle.cell.specs.Volume.{group_of, pair_numbers, line_numbers, factors_in}
-use Rattle.cell.specs.Places.{line_numbers_at, line_factor}
+use Rattle.cell.specs.Places.{consecutive, all_below_at, line_numbers_at, line_factor}
+use Rattle.slices.specs.Pairs.{all_below}
 use Rattle.cell.proofs.Reading.{line_beyond}
 use Rattle.cell.proofs.OperationLaws.{by_group}
 
@@ -88,3 +92,15 @@ module _ (g : Group) (a : J) (m : ℕ) (v : List ℕ) (j i : J) (e : i ≡ cond 
   pub mate_column : a.1 < j.1 → {y : Pair} → y ≡ pair_of (conj m (value_of m x)) → y ≡ pair_of (factors_in g a m v j.0 j.1 j.2)
   unfolding factors_in
   mate_column l q = rw (lt-leb j.1 a.1 l) (q ∙ ap (λ z. pair_of (conj m z)) (value_by m _ f ∙ ap (line_factor g a m v) (e ∙ rw (lt-leb j.1 a.1 l) refl)))
+
+-- ---- a run of numbers below p
+
+run_below : (p : ℕ) (v : List ℕ) (first count : ℕ) → first + count ≤ length v → all_below p (take count (drop first v)) ≡ all_below_at p v (consecutive first count)
+unfolding all_below every consecutive
+run_below p v first zero h = refl
+run_below p v first (suc count) h =
+    let inside : first < length v = omega arith in
+    rw (drop-cons v first 0, ← add-one first) (ap (λ b. ltb (get_or v first 0) p && b) (run_below p v (first + 1) count (omega arith)))
+
+pub part_below : (p : ℕ) (v : List ℕ) (first count n : ℕ) → n ≡ count → first + count ≤ length v → all_below p (take n (drop first v)) ≡ all_below_at p v (consecutive first count)
+part_below p v first count n e h = ap (λ n. all_below p (take n (drop first v))) e ∙ run_below p v first count h

@@ -1,18 +1,17 @@
 -- Between the ends of l a factor is the pair at its place, whatever the kind of its line.
 use mathlib.Core.Path.{◌≡◌, refl}
 use mathlib.Core.Logic.{◌⊎◌, inl, inr, ⊎_elim}
-use mathlib.Core.Bool.{false, ◌||◌}
+use mathlib.Core.Bool.{◌||◌}
 use mathlib.Core.List.{List}
 use Prim.Native.Nat.{ℕ, ◌/◌, ◌<◌}
-use lib.Dec.{eqb}
 use borrow.Author.Tests.{ne_eqb}
-use Rattle.algebra.specs.lines.Kinds.{Kind, Kind.alternating}
+use Rattle.algebra.specs.lines.Kinds.{Kind.alternating}
 use Rattle.algebra.specs.cells.Cell.{J, Group, P1, P2₁, Pm, Pa, P2₁2₁2₁, span}
 use Rattle.numbers.specs.declared.Pair.{Pair}
 use Rattle.slices.specs.Pairs.{at}
 use Rattle.cell.specs.declared.operations.Index.{Index}
 use Rattle.cell.specs.declared.operations.UnitCell.{UnitCell}
-use Rattle.cell.specs.Operations.{cell_group, cell_halves}
+use Rattle.cell.specs.Operations.{cell_group}
 use Rattle.cell.specs.Volume.{line_kind, pair_place}
 use Rattle.cell.specs.Places.{IsStoredFactor}
 use Rattle.cell.specs.TestSteps.{IsVolume, IsStored, PairInside}

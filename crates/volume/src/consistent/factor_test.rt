@@ -94,17 +94,14 @@ fn between(x: u32, end: u32) -> bool
 }
 
 // The first operation leaves j where it is, and need not be tried.
+#[tactic(auto, using(algebra::proofs::cells::Passing::tested_members))]
 fn images_agree(m: u32, cell: UnitCell, volume: &[u32], j: Index) -> bool
     requires { IsVolume cell volume.now × IsModulus m × Below (prime m) volume.now × IsStored cell j }
     ensures { result ≡ line_agrees (cell_group cell) (cell_halves cell) m volume.now (triple_of j) }
 {
-    let count = operations::operation_count(cell.group);
-    let mut number = 1;
-    while number < count {
+    for number in 1..operations::operation_count(cell.group) {
         let o = operations::operation_at(cell.group, number);
-        if image_agrees(m, cell, volume, o, j) {
-            number += 1;
-        } else {
+        if !image_agrees(m, cell, volume, o, j) {
             return false;
         }
     }
@@ -138,6 +135,7 @@ fn ends_agree(m: u32, cell: UnitCell, volume: &[u32], l: u32, h: u32) -> bool
 }
 
 // All k of the row (l, h), after those of the row (l, -h) where h is beyond N1/2.
+#[tactic(auto, using(algebra::proofs::cells::Passing::tested))]
 fn row_agrees(m: u32, cell: UnitCell, volume: &[u32], l: u32, h: u32) -> bool
     requires volume { IsVolume cell volume.now
         × IsModulus m
@@ -151,11 +149,8 @@ fn row_agrees(m: u32, cell: UnitCell, volume: &[u32], l: u32, h: u32) -> bool
     if ends_alone(cell, l) {
         return ends_agree(m, cell, volume, l, h);
     }
-    let mut k = 0;
-    while k <= cell.n2 / 2 {
-        if factor_agrees(m, cell, volume, Index { h, k, l }) {
-            k += 1;
-        } else {
+    for k in 0..=cell.n2 / 2 {
+        if !factor_agrees(m, cell, volume, Index { h, k, l }) {
             return false;
         }
     }
@@ -163,6 +158,7 @@ fn row_agrees(m: u32, cell: UnitCell, volume: &[u32], l: u32, h: u32) -> bool
 }
 
 // All h of the layer l, rising: a row is tested after that of -h.
+#[tactic(auto, using(algebra::proofs::cells::Passing::tested))]
 fn layer_agrees(m: u32, cell: UnitCell, volume: &[u32], l: u32) -> bool
     requires { IsVolume cell volume.now
         × IsModulus m
@@ -172,11 +168,8 @@ fn layer_agrees(m: u32, cell: UnitCell, volume: &[u32], l: u32) -> bool
         ≡ below (2 * (cell.n1 / 2))
         (λ h. line_row_agrees (cell_group cell) (cell_halves cell) m volume.now l h) }
 {
-    let mut h = 0;
-    while h < cell.n1 {
-        if row_agrees(m, cell, volume, l, h) {
-            h += 1;
-        } else {
+    for h in 0..cell.n1 {
+        if !row_agrees(m, cell, volume, l, h) {
             return false;
         }
     }
@@ -184,16 +177,13 @@ fn layer_agrees(m: u32, cell: UnitCell, volume: &[u32], l: u32) -> bool
 }
 
 // All stored l.
+#[tactic(auto, using(algebra::proofs::cells::Passing::tested))]
 fn factors_agree(m: u32, cell: UnitCell, volume: &[u32]) -> bool
     requires { IsVolume cell volume.now × IsModulus m × Below (prime m) volume.now }
     ensures { result ≡ lines_agree (cell_group cell) (cell_halves cell) m volume.now }
 {
-    let count = places::stored_count(cell);
-    let mut l = 0;
-    while l < count {
-        if layer_agrees(m, cell, volume, l) {
-            l += 1;
-        } else {
+    for l in 0..places::stored_count(cell) {
+        if !layer_agrees(m, cell, volume, l) {
             return false;
         }
     }
@@ -214,17 +204,15 @@ fn empty_line(cell: UnitCell, volume: &[u32], h: u32, k: u32) -> bool
 }
 
 // The same for all k.
+#[tactic(auto, using(algebra::proofs::cells::Passing::tested))]
 fn empty_row(cell: UnitCell, volume: &[u32], h: u32) -> bool
     requires { IsVolume cell volume.now × (line_kind (cell_group cell) h ≡ antisymmetric) × (h < cell.n1) }
     ensures { result
         ≡ below (suc (cell.n2 / 2))
         (λ k. empty_ends (cell_group cell) (cell_halves cell) volume.now h k) }
 {
-    let mut k = 0;
-    while k <= cell.n2 / 2 {
-        if empty_line(cell, volume, h, k) {
-            k += 1;
-        } else {
+    for k in 0..=cell.n2 / 2 {
+        if !empty_line(cell, volume, h, k) {
             return false;
         }
     }
@@ -236,11 +224,8 @@ fn odd_rows_empty(cell: UnitCell, volume: &[u32]) -> bool
     requires { IsVolume cell volume.now × (line_kind (cell_group cell) 1 ≡ antisymmetric) }
     ensures { result ≡ left_out_empty (cell_group cell) (cell_halves cell) volume.now }
 {
-    let mut h = 1;
-    while h < cell.n1 {
-        if empty_row(cell, volume, h) {
-            h += 2;
-        } else {
+    for h in (1..cell.n1).step_by(2) {
+        if !empty_row(cell, volume, h) {
             return false;
         }
     }

@@ -13,16 +13,14 @@ use cell::operations::{Operation, Point, UnitCell};
 use cell::{operations, places};
 
 // The volume is the map, with its zeros, of some real cell that obeys the group.
+#[tactic(auto, using(algebra::proofs::cells::Passing::tested))]
 pub fn consistent_map(cell: UnitCell, volume: &[u32]) -> bool
     requires { IsVolume cell volume.now }
     ensures { result ≡ consistent_map (cell_group cell) (cell_halves cell) volume.now }
 {
     let planes = places::layer_count(cell);
-    let mut z = 0;
-    while z < planes {
-        if plane_agrees(cell, volume, z) {
-            z += 1;
-        } else {
+    for z in 0..planes {
+        if !plane_agrees(cell, volume, z) {
             return false;
         }
     }
@@ -47,19 +45,16 @@ fn image_agrees(cell: UnitCell, volume: &[u32], o: Operation, p: Point) -> bool
 }
 
 // Every image of the point agrees. The first operation leaves it where it is, and need not be tried.
+#[tactic(auto, using(algebra::proofs::cells::Passing::tested_members))]
 fn point_agrees(cell: UnitCell, volume: &[u32], p: Point) -> bool
     requires { IsVolume cell volume.now
         × PointWithin cell p
         × (p.z < layers (cell_group cell) (cell_halves cell)) }
     ensures { result ≡ point_agrees (cell_group cell) (cell_halves cell) volume.now (point_of p) }
 {
-    let count = operations::group_order(cell.group);
-    let mut number = 1;
-    while number < count {
+    for number in 1..operations::group_order(cell.group) {
         let o = operations::group_operation(cell.group, number);
-        if image_agrees(cell, volume, o, p) {
-            number += 1;
-        } else {
+        if !image_agrees(cell, volume, o, p) {
             return false;
         }
     }
@@ -72,20 +67,18 @@ fn meets_stored(cell: UnitCell, z: u32) -> bool
     ensures { result ≡ false → PlaneAgrees cell z }
 {
     let planes = places::layer_count(cell);
-    let count = operations::group_order(cell.group);
-    let mut number = 1;
-    while number < count {
+    for number in 1..operations::group_order(cell.group) {
         let o = operations::group_operation(cell.group, number);
         let q = operations::point_image(o, cell, Point { x: 0, y: 0, z });
         if q.z < planes {
             return true;
         }
-        number += 1;
     }
     false
 }
 
 // The points of the row at z and x, where they are to be tried.
+#[tactic(auto, using(algebra::proofs::cells::Passing::tested))]
 fn points_agree(cell: UnitCell, volume: &[u32], tried: bool, z: u32, x: u32) -> bool
     requires { IsVolume cell volume.now
         × (z < layers (cell_group cell) (cell_halves cell))
@@ -96,11 +89,8 @@ fn points_agree(cell: UnitCell, volume: &[u32], tried: bool, z: u32, x: u32) -> 
     if !tried {
         return true;
     }
-    let mut y = 0;
-    while y < cell.n2 {
-        if point_agrees(cell, volume, Point { x, y, z }) {
-            y += 1;
-        } else {
+    for y in 0..cell.n2 {
+        if !point_agrees(cell, volume, Point { x, y, z }) {
             return false;
         }
     }
@@ -123,6 +113,7 @@ fn row_agrees(cell: UnitCell, volume: &[u32], tried: bool, z: u32, x: u32) -> bo
 }
 
 // All x of the plane z.
+#[tactic(auto, using(algebra::proofs::cells::Passing::tested))]
 fn plane_agrees(cell: UnitCell, volume: &[u32], z: u32) -> bool
     requires { IsVolume cell volume.now × (z < layers (cell_group cell) (cell_halves cell)) }
     ensures { result
@@ -130,11 +121,8 @@ fn plane_agrees(cell: UnitCell, volume: &[u32], z: u32) -> bool
         (λ x. row_agrees (cell_group cell) (cell_halves cell) volume.now z x) }
 {
     let tried = meets_stored(cell, z);
-    let mut x = 0;
-    while x < cell.n1 {
-        if row_agrees(cell, volume, tried, z, x) {
-            x += 1;
-        } else {
+    for x in 0..cell.n1 {
+        if !row_agrees(cell, volume, tried, z, x) {
             return false;
         }
     }

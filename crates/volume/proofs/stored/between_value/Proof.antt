@@ -1,5 +1,4 @@
 -- The pair at its place, over i where the line is rotated.
-use borrow.Author.Rules.{rules}
 use mathlib.Core.Path.{◌≡◌, ◌∙◌, ap}
 use native.Mathlib.Omega.{arith}
 use Rattle.numbers.specs.Value.{pair_of}

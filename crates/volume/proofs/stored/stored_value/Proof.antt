@@ -1,5 +1,4 @@
 -- The value of the line's own numbers, over i where the line is rotated.
-use borrow.Author.Rules.{rules}
 use mathlib.Core.Path.{◌∙◌, ap}
 use Rattle.numbers.specs.Value.{pair_of}
 use Rattle.numbers.proofs.Values.{small_by, value_by}

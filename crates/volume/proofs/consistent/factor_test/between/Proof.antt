@@ -1,5 +1,5 @@
 -- Not 0, and before the end.
-use mathlib.Core.Path.{◌≡◌, sym, subst}
+use mathlib.Core.Path.{sym, subst}
 use lib.Dec.{T, ltb, ltb→lt}
 use Rattle.algebra.proofs.ring.Bool.{and_l, and_r}
 use Rattle.volume.proofs.consistent.factor_test.between.Statement.{statement}

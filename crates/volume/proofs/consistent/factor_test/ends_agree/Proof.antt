@@ -1,6 +1,4 @@
 -- Both ends, the second only if the first agrees.
-use borrow.Author.Rules.{rules}
-use Prim.Native.Nat.{◌/◌}
 use native.Mathlib.Omega.{arith}
 use Rattle.algebra.proofs.cells.Passing.{both_passed, first_failed}
 use Rattle.volume.proofs.consistent.factor_test.ends_agree.Statement.{statement}

@@ -1,7 +1,5 @@
 -- In P1 by Friedel's rule alone; in the others but P2₁2₁2₁ where l is between its ends.
 use borrow.Author.Rules.{rules}
-use mathlib.Core.Bool.{not}
-use lib.Dec.{eqb}
 use Rattle.volume.proofs.consistent.Interior.{inner_rows}
 use Rattle.volume.proofs.consistent.factor_test.ends_alone.Statement.{statement}
 use Rattle.volume.proofs.consistent.factor_test.ends_alone.Tie as tie

@@ -9,7 +9,7 @@ use borrow.Author.Tests.{eqb-true}
 use Rattle.algebra.specs.cells.Cell.{neg_i}
 use Rattle.cell.specs.Volume.{group_of}
 use Rattle.cell.specs.Consistency.{line_agrees}
-use Rattle.cell.specs.Operations.{cell_group, cell_halves, triple_of}
+use Rattle.cell.specs.Operations.{cell_halves, triple_of}
 use Rattle.cell.specs.TestSteps.{image_agrees, mirrored}
 use Rattle.volume.proofs.consistent.Interior.{inner_4, mirror_4}
 use Rattle.volume.proofs.consistent.factor_test.factor_agrees.Statement.{statement}

@@ -1,0 +1,9 @@
+-- The layers before l agree.
+use Rattle.std.proofs.Common.{◌≡◌, true, ◌*◌, ◌/◌}
+use Rattle.algebra.specs.cells.Cell.{below}
+use Rattle.cell.specs.TestSteps.{line_row_agrees}
+use Rattle.cell.specs.Operations.{cell_group, cell_halves}
+use Rattle.volume.proofs.consistent.factor_test.factors_agree.Given as goal
+
+abbrev pub invariant-loop-l : goal.invariant-loop-l
+invariant-loop-l l = below l.l (λ i. below (2 * (l.cell.n1 / 2)) (λ h. line_row_agrees (cell_group l.cell) (cell_halves l.cell) l.m l.volume i h)) ≡ true

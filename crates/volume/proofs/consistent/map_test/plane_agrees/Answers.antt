@@ -1,0 +1,8 @@
+use Rattle.std.proofs.Common.{arith}
+use Rattle.cell.proofs.StoredFactors.{layers_most}
+use Rattle.volume.proofs.consistent.map_test.plane_agrees.Goals as goal
+
+pub meets_stored-tried-requires : goal.meets_stored-tried-requires
+meets_stored-tried-requires c =
+    let s = c.requires.0.sizes in
+    (s, omega (arith, c.requires.1, layers_most s.third _ s.known))

@@ -1,21 +1,17 @@
 -- A line of the packed factors, whatever the group: the values that its pairs stand for, by kind, and the pairs that its values are packed in.
 -- The line has the half c; q w is the value of its pair w, counted from 0 also where the kind leaves the first pair out.
 use mathlib.Core.Path.{◌≡◌, refl, sym, ◌∙◌, ap, ap₂, subst}
-use mathlib.Core.Bool.{Bool, true, false, not, cond}
-use mathlib.Core.List.{[], ◌∷◌}
+use mathlib.Core.Bool.{cond}
 use Prim.Native.Nat.{ℕ, zero, suc, ◌+◌, ◌*◌, ◌-◌, ◌<◌, ◌≤◌}
 use native.Mathlib.Omega.{arith}
 use native.Mathlib.Decide.{ℕ_discrete}
 use lib.Dec.{T, T_not, eqb, eqb→eq, eqb_refl}
 use borrow.Author.Tests.{lt-ltb, le-ltb, le-leb}
-use Rattle.algebra.specs.ring.Ring.{Ops, pow, residues, gauss, conj, imag}
-use Rattle.algebra.specs.ring.RingLaws.{CRing}
-use Rattle.algebra.specs.lines.Kinds.{unit, unfold_by, pack_by, Kind, Kind.plain, Kind.alternating, Kind.symmetric, Kind.antisymmetric, slots, unfold_before, pack_before}
+use Rattle.algebra.specs.ring.Ring.{pow, residues}
+use Rattle.algebra.specs.lines.Kinds.{unfold_by, Kind, Kind.plain, Kind.alternating, Kind.symmetric, Kind.antisymmetric, slots, unfold_before, pack_before}
 use Rattle.algebra.specs.cells.CellPack.{even, part_of, of_part, pack_alt, unpack_alt}
-use Rattle.algebra.proofs.ring.Paths.{pair}
 use Rattle.algebra.proofs.ring.Bool.{split}
 use Rattle.algebra.proofs.ring.Laws.{along}
-use Rattle.algebra.proofs.ring.Solver.{ring, quote}
 use Rattle.algebra.proofs.cells.CellPack.{unit_is, unit_part, pack_alternating}
 use Rattle.algebra.proofs.lines.Unfold.{unfold_zero, unfold_low, unfold_middle, unfold_high}
 use Rattle.numbers.specs.Value.{Value, field, i, half, real, value}

@@ -7,7 +7,7 @@ use Prim.Native.Nat.{ℕ, zero, suc, ◌+◌, ◌*◌, ◌-◌, ◌/◌, ◌%◌
 use native.Mathlib.Omega.{arith}
 use lib.ListN.{length, get_or, length-append, length-map, get_or-append}
 use lib.Seq.{get_or-append-add}
-use Rattle.algebra.specs.ring.Ring.{Ops, pow}
+use Rattle.algebra.specs.ring.Ring.{pow}
 use Rattle.algebra.specs.cells.Cell.{Sym, one, friedel, ◌·◌, Group, P1, P2₁, Pm, Pa, P2₁2₁2₁, ops, full, flip, shifted, xor, sgn}
 use Rattle.algebra.specs.cells.CellPlaces.{line_sym}
 use Rattle.algebra.proofs.ring.Laws.{along, neg_one_mul}

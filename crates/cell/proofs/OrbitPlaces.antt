@@ -1,19 +1,19 @@
 -- The place of an orbit: stored indices have different places inside the volume, each orbit has a stored index, so the least place of its stored images
 -- lies in the volume and tells orbits apart.
 use mathlib.Core.Path.{◌≡◌, refl, sym, ◌∙◌, ap, subst}
-use mathlib.Core.Logic.{◌↔◌, ◌⊎◌, inl, inr, ⊎_elim}
+use mathlib.Core.Logic.{◌↔◌}
 use mathlib.Core.Bool.{Bool, true, false, ◌&&◌, not, cond}
 use mathlib.Core.List.{List, [], ◌∷◌}
 use Prim.Native.Nat.{ℕ, suc, ◌+◌, ◌*◌, ◌<◌, ◌≤◌}
 use native.Mathlib.Omega.{arith}
 use lib.Dec.{T, eqb, eqb→eq, ltb, ltb→lt, nltb→le}
-use borrow.Author.Tests.{eq-eqb, ne_eqb}
+use borrow.Author.Tests.{eq-eqb}
 use Rattle.algebra.specs.orbits.Orbit.{Mem, first, later}
 use Rattle.algebra.specs.lines.Kinds.{Kind.symmetric, Kind.antisymmetric}
 use Rattle.algebra.specs.cells.Cell.{J, Inside, Sym, ◌·◌, Group, P1, P2₁, Pm, Pa, P2₁2₁2₁, full, image_of, same_orbit, span, planes, stored_t, factor_acts}
 use Rattle.algebra.specs.cells.CellPack.{even}
 use Rattle.algebra.specs.cells.CellPlaces.{Stored, factor_operation}
-use Rattle.algebra.proofs.ring.Bool.{and_i, and_l, and_r, split}
+use Rattle.algebra.proofs.ring.Bool.{and_l, and_r, split}
 use Rattle.algebra.proofs.ring.Paths.{triple}
 use Rattle.algebra.proofs.orbits.Orbits.{image_back}
 use Rattle.algebra.proofs.cells.CellSym.{image_image, image_inside}
@@ -21,7 +21,7 @@ use Rattle.algebra.proofs.cells.CellGroup.{factor_action, closed, operation_in, 
 use Rattle.algebra.proofs.cells.CellTests.{Positive, stored_iff}
 use Rattle.numbers.proofs.Values.{field_ring, field_star}
 use Rattle.slices.proofs.Rows.{block_inj}
-use Rattle.cell.specs.Volume.{layers, rows, columns, pair_place, volume_length}
+use Rattle.cell.specs.Volume.{layers, pair_place, volume_length}
 use Rattle.cell.specs.OrbitPlace.{place_in_line, number_place, lower, least_place, orbit_place, SamePlace}
 use Rattle.cell.proofs.Tests.{true_iff}
 use Rattle.cell.proofs.VolumeLayout.{place_inside}

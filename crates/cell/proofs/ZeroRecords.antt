@@ -1,25 +1,25 @@
 -- A record of value zero where the numbers of its orbit are zero changes no number, whatever else the volume holds: a pair that is left out of its line is not written.
 use mathlib.Core.Path.{◌≡◌, refl, sym, ◌∙◌, ap, subst}
-use mathlib.Core.Bool.{Bool, true, false, not, ◌||◌, cond}
+use mathlib.Core.Bool.{Bool, true, false, ◌||◌, cond}
 use mathlib.Core.List.{List, [], ◌∷◌}
 use Prim.Native.Nat.{ℕ, ◌+◌, ◌*◌, ◌-◌, ◌≤◌, min}
 use native.Mathlib.Omega.{arith}
-use lib.Dec.{T, eqb, eqb→eq}
+use lib.Dec.{eqb, eqb→eq}
 use lib.ListN.{get_or, set}
 use lib.Seq.{set-get_or}
 use borrow.Author.Tests.{le-leb}
 use Rattle.algebra.specs.ring.Ring.{gauss, residues}
 use Rattle.algebra.specs.orbits.Orbit.{Mem, first, later}
 use Rattle.algebra.specs.lines.Kinds.{Kind.alternating, Kind.symmetric, Kind.antisymmetric}
-use Rattle.algebra.specs.cells.Cell.{J, Sym, Group, P1, P2₁, Pm, Pa, P2₁2₁2₁, full, image_of, span, stored_t, implied_value, factor_acts}
+use Rattle.algebra.specs.cells.Cell.{J, Sym, Group, P1, P2₁, Pm, Pa, P2₁2₁2₁, full, image_of, span, stored_t, implied_value}
 use Rattle.algebra.specs.cells.CellPack.{even}
 use Rattle.algebra.specs.cells.CellPlaces.{Stored}
 use Rattle.algebra.proofs.ring.Bool.{split, every_at}
-use Rattle.algebra.proofs.ring.Laws.{along, mul_zero}
+use Rattle.algebra.proofs.ring.Laws.{mul_zero}
 use Rattle.algebra.proofs.cells.CellGroup.{implied_zero}
 use Rattle.algebra.proofs.cells.CellTests.{stored_iff}
 use Rattle.numbers.specs.declared.Pair.{Pair}
-use Rattle.numbers.specs.Value.{Value, field, conj, i, pair_of}
+use Rattle.numbers.specs.Value.{field, conj, i, pair_of}
 use Rattle.numbers.proofs.Primes.{prime_pos}
 use Rattle.numbers.proofs.Residues.{val_res}
 use Rattle.numbers.proofs.Values.{pair_path, field_ring, field_star}

@@ -3,19 +3,17 @@ use mathlib.Core.Path.{◌≡◌, refl, sym, ◌∙◌, ap, subst}
 use mathlib.Core.Logic.{◌⊎◌, inl, inr}
 use mathlib.Core.Bool.{Bool, true, false, ◌||◌, cond}
 use mathlib.Core.List.{List, []}
-use Prim.Native.Nat.{ℕ, ◌*◌, ◌-◌, ◌%◌, ◌<◌}
+use Prim.Native.Nat.{ℕ, ◌*◌, ◌%◌, ◌<◌}
 use native.Mathlib.Omega.{arith}
-use lib.Dec.{T, eqb, leb}
+use lib.Dec.{eqb, leb}
 use borrow.Author.Tests.{eq-eqb, ne_eqb}
-use Rattle.algebra.specs.orbits.Orbit.{Mem}
 use Rattle.algebra.specs.lines.Kinds.{Kind.symmetric, Kind.antisymmetric}
 use Rattle.algebra.specs.cells.Cell.{J, Inside, Sym, Pa, full, image_of, neg_i, flip}
 use Rattle.algebra.specs.cells.Cell as Cell
-use Rattle.algebra.specs.cells.CellPack.{even}
 use Rattle.algebra.proofs.cells.CellAxis.{neg_zero, neg_pos}
 use Rattle.algebra.proofs.cells.CellSym.{image_inside}
 use Rattle.algebra.proofs.cells.CellTests.{Positive}
-use Rattle.cell.specs.Volume.{line_kind, line_numbers, pair_numbers, numbers_read}
+use Rattle.cell.specs.Volume.{line_kind, line_numbers, numbers_read}
 use Rattle.cell.specs.Consistency.{orbit_free}
 use Rattle.cell.proofs.Tests.{true_iff}
 use Rattle.cell.proofs.PlaceLaws.{even_tested}

@@ -17,7 +17,7 @@ ghost use Rattle.cell.specs.Operations.{PointWithin};
 use numbers::Pair;
 
 // A unit cell as a call knows it: the number of its symmetry group, and the lengths of its three axes.
-#[derive(Clone, Copy)]
+#[derive(Clone, Copy, Debug, PartialEq, Eq)]
 pub struct UnitCell {
     pub group: u32,
     pub n1: u32,
@@ -26,7 +26,7 @@ pub struct UnitCell {
 }
 
 // The index of a structure factor, in reciprocal space.
-#[derive(Clone, Copy)]
+#[derive(Clone, Copy, Debug, PartialEq, Eq)]
 pub struct Index {
     pub h: u32,
     pub k: u32,
@@ -34,7 +34,7 @@ pub struct Index {
 }
 
 // A point of the map, in real space. No function takes one for the other.
-#[derive(Clone, Copy)]
+#[derive(Clone, Copy, Debug, PartialEq, Eq)]
 pub struct Point {
     pub x: u32,
     pub y: u32,
@@ -42,7 +42,7 @@ pub struct Point {
 }
 
 // F at (±h, ±k, ±l) is (-1)^(h, k, l where odd) F(h, k, l), conjugated if `conjugate` says so.
-#[derive(Clone, Copy)]
+#[derive(Clone, Copy, Debug, PartialEq, Eq)]
 pub struct Operation {
     pub conjugate: bool,
     pub minus_h: bool,
@@ -132,9 +132,7 @@ fn with_friedel(o: Operation) -> Operation
         minus_h: !o.minus_h,
         minus_k: !o.minus_k,
         minus_l: !o.minus_l,
-        odd_h: o.odd_h,
-        odd_k: o.odd_k,
-        odd_l: o.odd_l,
+        ..o
     }
 }
 

@@ -16,7 +16,7 @@ use crate::operations::{Index, Point, UnitCell};
 use numbers::Pair;
 
 // Neighbouring numbers of a volume.
-#[derive(Clone, Copy)]
+#[derive(Clone, Copy, Debug, PartialEq, Eq)]
 pub struct Run {
     pub first: usize,
     pub count: usize,
@@ -44,7 +44,7 @@ pub fn is_rotated(group: u32, h: usize) -> bool
     requires { group < 5 }
     ensures { result ≡ rotated (group_of group) h }
 {
-    if group == 4 { h % 2 != 0 } else { false }
+    group == 4 && h % 2 != 0
 }
 
 // x as the line at h stores it.

@@ -24,14 +24,14 @@ pub fn pair_at(cell: UnitCell, volume: &[u32], w: u32, h: u32, k: u32) -> Pair
 pub fn same(x: Pair, y: Pair) -> bool
     ensures { result ≡ same_pair x y }
 {
-    (x.re == y.re) & (x.im == y.im)
+    x == y
 }
 
 // Both numbers are zero.
 pub fn is_zero(x: Pair) -> bool
     ensures { result ≡ is_zero x }
 {
-    (x.re == 0) & (x.im == 0)
+    x == Pair { re: 0, im: 0 }
 }
 
 // The pair of an alternating line that l is read from: l = 0 and l = A share pair 0.

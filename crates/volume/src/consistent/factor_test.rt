@@ -21,16 +21,9 @@ pub fn consistent_factors(m: u32, cell: UnitCell, volume: &[u32]) -> bool
     requires { IsVolume cell volume.now × IsModulus m × Below (prime m) volume.now }
     ensures { result ≡ consistent_factors (cell_group cell) (cell_halves cell) m volume.now }
 {
-    if factors_agree(m, cell, volume) {
-        // a group has antisymmetric lines at h = 1 or nowhere
-        if places::line_kind(cell.group, 1) == 5 {
-            odd_rows_empty(cell, volume)
-        } else {
-            true
-        }
-    } else {
-        false
-    }
+    // a group has antisymmetric lines at h = 1 or nowhere
+    factors_agree(m, cell, volume)
+        && (places::line_kind(cell.group, 1) != 5 || odd_rows_empty(cell, volume))
 }
 
 // The image of j under o, where it is stored, has the value that the factor at j implies.
@@ -126,12 +119,9 @@ fn ends_agree(m: u32, cell: UnitCell, volume: &[u32], l: u32, h: u32) -> bool
         × (h < cell.n1) }
     ensures { result ≡ row_ends_agree (cell_group cell) (cell_halves cell) m volume.now l h }
 {
-    if images_agree(m, cell, volume, Index { h, k: 0, l }) {
-        let k = cell.n2 / 2;
-        images_agree(m, cell, volume, Index { h, k, l })
-    } else {
-        false
-    }
+    let k = cell.n2 / 2;
+    images_agree(m, cell, volume, Index { h, k: 0, l })
+        && images_agree(m, cell, volume, Index { h, k, l })
 }
 
 // All k of the row (l, h), after those of the row (l, -h) where h is beyond N1/2.

@@ -105,11 +105,8 @@ fn row_agrees(cell: UnitCell, volume: &[u32], tried: bool, z: u32, x: u32) -> bo
         × (tried ≡ false → PlaneAgrees cell z) }
     ensures { result ≡ row_agrees (cell_group cell) (cell_halves cell) volume.now z x }
 {
-    if points_agree(cell, volume, tried, z, x) {
-        crate::stored::is_zero(crate::stored::pair_at(cell, volume, z, x, cell.n2 / 2))
-    } else {
-        false
-    }
+    points_agree(cell, volume, tried, z, x)
+        && crate::stored::is_zero(crate::stored::pair_at(cell, volume, z, x, cell.n2 / 2))
 }
 
 // All x of the plane z.

@@ -1,0 +1,7 @@
+-- Times i, or not.
+use mathlib.Core.Path.{sym, ◌∙◌}
+use Rattle.cell.proofs.RotatedLines.{times_not}
+use Rattle.cell.proofs.places.with_i.Goals as goal
+
+pub returns-else-is_rotated : goal.returns-else-is_rotated
+returns-else-is_rotated c = times_not _ c.requires.1 (sym c.is_rotated.ensures ∙ c.if-is_rotated.false)

@@ -1,0 +1,16 @@
+-- The points agree, and the row ends with two zeros: the pair after its last point.
+use native.Mathlib.Omega.{arith}
+use Rattle.cell.specs.Operations.{cell_group, cell_halves}
+use Rattle.algebra.proofs.cells.Passing.{both_passed}
+use Rattle.cell.proofs.StoredFactors.{pair_inside}
+use Rattle.volume.proofs.consistent.TestLaws.{row_ends_lem}
+use Rattle.volume.proofs.consistent.map_test.row_agrees.Goals as goal
+
+pub pair_at-requires : goal.pair_at-requires
+pair_at-requires c = let p = c.requires in pair_inside p.0 _ _ _ p.1 p.2 (omega arith)
+
+pub returns-then-points_agree : goal.returns-then-points_agree
+returns-then-points_agree c =
+    let a = c.args in
+    both_passed c.points_agree.ensures c.if-points_agree.true
+    (row_ends_lem (cell_group a.cell) (cell_halves a.cell) a.volume.now a.z a.x c.pair_at.ensures c.is_zero.ensures)

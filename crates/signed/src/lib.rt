@@ -20,12 +20,7 @@ pub fn centre(p: u32, x: u32) -> i32
 pub fn magnitude(x: i64) -> u64
     ensures { result ≡ nat_abs x }
 {
-    if x < 0 {
-        let y = -1 - x;
-        (y as u64) + 1
-    } else {
-        x as u64
-    }
+    x.unsigned_abs()
 }
 
 // What `centred` gives is congruent to the residue and within the half range, and no other whole number is both. The function does

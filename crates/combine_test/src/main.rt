@@ -6,7 +6,7 @@
 ghost use Rattle.std.specs.Prelude.{◌≤◌, length};
 
 use job::{Axis, Job};
-use output::FillAnswer;
+use refusals::Refusal;
 use std::io;
 use std::io::{Read, Write};
 
@@ -46,7 +46,7 @@ fn high(x: i64) -> u32 {
 }
 
 // What a call answered, and the checksums of the low parts of an output and of the high ones.
-fn print_output<W: Write>(to: &mut W, answer: FillAnswer, v: &[i64]) -> io::Result<()>
+fn print_output<W: Write>(to: &mut W, answer: Result<usize, Refusal>, v: &[i64]) -> io::Result<()>
     requires { length v.now ≤ 256 }
 {
     let mut lows = [0u32; 256];

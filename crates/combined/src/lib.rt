@@ -12,26 +12,26 @@ ghost use Rattle.cell.specs.Operations.{cell_group, cell_lengths, cell_halves, p
 ghost use Rattle.combined.specs.CombinedMap.{count_of, combined_map_tests, PackedExactly};
 
 use cell::operations::{Point, UnitCell};
-use refusals::{Checked, Refusal};
+use refusals::Refusal;
 
 // 8, 3, 9, 6: whether a map of this length is one of the cell.
-pub fn check_combined_map(cell: UnitCell, length: usize) -> Checked
+pub fn check_combined_map(cell: UnitCell, length: usize) -> Result<(), Refusal>
     ensures { checked_number result ≡ first (combined_map_tests cell.group (cell_lengths cell) length) }
 {
     if 5 <= cell.group {
-        return Checked::Failed(Refusal::Group);
+        return Err(Refusal::Group);
     }
     if !header::bytes::all_admitted(cell) {
-        return Checked::Failed(Refusal::Length);
+        return Err(Refusal::Length);
     }
     let needed = header::bytes::volume_length(cell);
     if 16777216 < needed {
-        return Checked::Failed(Refusal::VolumeTooLarge);
+        return Err(Refusal::VolumeTooLarge);
     }
     if (length as u64) != needed {
-        return Checked::Failed(Refusal::BufferLength);
+        return Err(Refusal::BufferLength);
     }
-    Checked::Sound
+    Ok(())
 }
 
 // The number of a point of the cell.

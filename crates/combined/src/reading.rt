@@ -7,40 +7,25 @@ ghost use Rattle.combined.specs.Reading.{within, count_tests, count_step, Counts
 ghost use Rattle.combined.specs.Answers.{said_count};
 
 use cell::operations::{Point, UnitCell};
-use refusals::{Checked, Refusal};
+use refusals::Refusal;
 
-// The answer: the point's number, or why it is not read.
-#[derive(Clone, Copy)]
-pub enum CountAnswer {
-    Count(i64),
-    Refused(Refusal),
-}
-
-// The number of a point anywhere in the cell.
-pub fn count(cell: UnitCell, at: Point, map: &[i64]) -> CountAnswer
+// The number of a point anywhere in the cell, or why it is not read.
+pub fn count(cell: UnitCell, at: Point, map: &[i64]) -> Result<i64, Refusal>
     ensures { said_count result ≡ count_step cell.group (cell_lengths cell) map.now (point_of at) }
 {
-    let checked = check_count(cell, at, map.len());
-    match checked {
-        Checked::Failed(refusal) => CountAnswer::Refused(refusal),
-        Checked::Sound => CountAnswer::Count(crate::count_at(cell, at, map)),
-    }
+    check_count(cell, at, map.len())?;
+    Ok(crate::count_at(cell, at, map))
 }
 
 // 8, 3, 9, 6, 10.
-fn check_count(cell: UnitCell, at: Point, length: usize) -> Checked
+fn check_count(cell: UnitCell, at: Point, length: usize) -> Result<(), Refusal>
     ensures { checked_number result ≡ first (count_tests cell.group (cell_lengths cell) length (point_of at)) }
 {
-    let checked = crate::check_combined_map(cell, length);
-    match checked {
-        Checked::Failed(refusal) => Checked::Failed(refusal),
-        Checked::Sound => {
-            if !inside(cell, at) {
-                return Checked::Failed(Refusal::Index);
-            }
-            Checked::Sound
-        }
+    crate::check_combined_map(cell, length)?;
+    if !inside(cell, at) {
+        return Err(Refusal::Index);
     }
+    Ok(())
 }
 
 // Each number of the point is below its axis length.

@@ -9,22 +9,22 @@ ghost use Rattle.combining.specs.Orders.{CombineRefusals};
 use cell::operations::UnitCell;
 use job::check::tests;
 use job::{Job, valid};
-use refusals::{Checked, Refusal};
+use refusals::Refusal;
 use volume::consistent::map_test;
 
 // 25, 22, 27, then the maps': each over both jobs before the next.
-pub fn check_maps(i: Job, first_map: &[u32], j: Job, second_map: &[u32], room: usize) -> Checked
+pub fn check_maps(i: Job, first_map: &[u32], j: Job, second_map: &[u32], room: usize) -> Result<(), Refusal>
     ensures { checked_number result
         ≡ first (combine_tests i j first_map.now second_map.now room) }
 {
     if !(valid::valid_job(i) & valid::valid_job(j)) {
-        return Checked::Failed(Refusal::ImpossibleJob);
+        return Err(Refusal::ImpossibleJob);
     }
     if !((i.state == 2) & (j.state == 2)) {
-        return Checked::Failed(Refusal::NoMap);
+        return Err(Refusal::NoMap);
     }
     if !of_one_cell(i, j) {
-        return Checked::Failed(Refusal::DifferentCells);
+        return Err(Refusal::DifferentCells);
     }
     check_volumes(i.unit_cell(), first_map, second_map, room)
 }
@@ -40,7 +40,7 @@ fn of_one_cell(i: Job, j: Job) -> bool
 }
 
 // 6, 7, 14: each over both maps before the next, 6 of the output too.
-fn check_volumes(cell: UnitCell, first_map: &[u32], second_map: &[u32], room: usize) -> Checked
+fn check_volumes(cell: UnitCell, first_map: &[u32], second_map: &[u32], room: usize) -> Result<(), Refusal>
     requires { Sizes cell }
     ensures { checked_number result
         ≡ first
@@ -49,15 +49,15 @@ fn check_volumes(cell: UnitCell, first_map: &[u32], second_map: &[u32], room: us
 {
     let needed = header::bytes::volume_length(cell);
     if !(tests::fits(cell, first_map) & (tests::fits(cell, second_map) & (room as u64 == needed))) {
-        return Checked::Failed(Refusal::BufferLength);
+        return Err(Refusal::BufferLength);
     }
     if !(tests::all_residues(1, first_map) & tests::all_residues(2, second_map)) {
-        return Checked::Failed(Refusal::NotResidue);
+        return Err(Refusal::NotResidue);
     }
     if !(map_test::consistent_map(cell, first_map) & map_test::consistent_map(cell, second_map)) {
-        return Checked::Failed(Refusal::Inconsistent);
+        return Err(Refusal::Inconsistent);
     }
-    Checked::Sound
+    Ok(())
 }
 
 // The refusals stand in the papers' order; 27 is exactly that of jobs of different cells or primes, and 14 that of a volume that is no map

@@ -9,8 +9,7 @@ ghost use Rattle.combining.specs.Answers.{combine_outcome};
 ghost use Rattle.combining.specs.Points.{CombinedPoints, CombinedRestores};
 
 use job::Job;
-use output::FillAnswer;
-use refusals::Checked;
+use refusals::Refusal;
 
 // Each number of the output becomes the only whole number from -13,063,485,600 to 13,063,485,600 that has both maps' residues. The
 // answer is how many numbers there are, or a refusal, which leaves the output as it was.
@@ -20,20 +19,15 @@ pub fn combine_maps(
     second: Job,
     second_map: &[u32],
     output: &mut [i64],
-) -> FillAnswer
+) -> Result<usize, Refusal>
     ensures { combine_outcome result output.new
         ≡ combine_step first first_map.now second second_map.now
         output.old }
 {
     let count = output.len();
-    let checked = crate::check::check_maps(first, first_map, second, second_map, count);
-    match checked {
-        Checked::Failed(refusal) => FillAnswer::Refused(refusal),
-        Checked::Sound => {
-            combined::chinese::combine_all(first_map, second_map, output);
-            FillAnswer::Written(count)
-        }
-    }
+    crate::check::check_maps(first, first_map, second, second_map, count)?;
+    combined::chinese::combine_all(first_map, second_map, output);
+    Ok(count)
 }
 
 // At every point of the cell the output has the only whole number within the limit that is congruent to both jobs' readings; a cell

@@ -10,7 +10,7 @@ use Rattle.refusals.specs.Refusals.{number_of, first}
 use Rattle.refusals.proofs.Tests.{passes, fails}
 use Rattle.lengths.specs.Lengths.{cleared}
 use Rattle.output.specs.Output.{Filled.written, Filled.not_written}
-use Rattle.output.specs.declared.FillAnswer.TheVariants as F
+use Rattle.std.specs.Prelude.{Ok, Err}
 use Rattle.cell.specs.Volume.{volume_length}
 use Rattle.header.specs.Header.{Header, half_lengths}
 use Rattle.correlation.specs.Correlation.{Buffers, correlation, correlation_tests, correlated_outcome, correlation_step}
@@ -27,12 +27,12 @@ module _ (c : Header) (a b : List ℤ) (w : Buffers) where
   abbrev count : ℕ
   count = volume_length P1 (half_lengths c.lengths)
 
-  pub refused_outcome : (r : Refusal) → number_of r ≡ tested → correlation_outcome (F.Refused r) w ≡ correlation_step c a b w
+  pub refused_outcome : (r : Refusal) → number_of r ≡ tested → correlation_outcome (Err r) w ≡ correlation_step c a b w
   unfolding correlation_step
   refused_outcome r e = fails r _ _ (λ n. record { answer = not_written n; buffers = w }) e
 
   pub accepted_outcome : {n : ℕ} {output : List ℤ} {work1 work2 work3 scratch : List ℕ} → 0 ≡ tested → n ≡ count → output ≡ correlation (half_lengths c.lengths) a b → work1 ≡ replicate count 0 → work2 ≡ replicate count 0 → work3 ≡ replicate count 0 → scratch ≡ cleared w.scratch
-      → correlation_outcome (F.Written n) (record { output = output; work1 = work1; work2 = work2; work3 = work3; scratch = scratch }) ≡ correlation_step c a b w
+      → correlation_outcome (Ok n) (record { output = output; work1 = work1; work2 = work2; work3 = work3; scratch = scratch }) ≡ correlation_step c a b w
   unfolding correlation_step
   accepted_outcome e n o w1 w2 w3 s =
       ◌∙◌ {b = correlated_outcome c.lengths a b w} (λ i. record { answer = written (n i); buffers = record { output = o i; work1 = w1 i; work2 = w2 i; work3 = w3 i; scratch = s i } }) (passes _ _ _ e)

@@ -10,7 +10,7 @@ ghost use Rattle.correlation.specs.Steps.{exceeds_at};
 ghost use Rattle.correlation.specs.Orders.{CorrelationRefusals};
 
 use cell::operations::UnitCell;
-use refusals::{Checked, Refusal};
+use refusals::Refusal;
 
 // 3, 4, 5, each over the three axes, 9, then the buffers'.
 pub fn check_correlation(
@@ -27,7 +27,7 @@ pub fn check_correlation(
     work2: usize,
     work3: usize,
     scratch: usize,
-) -> Checked
+) -> Result<(), Refusal>
     ensures { checked_number result
         ≡ first
         (correlation_tests (header_of (n1, n2, n3) f1.now f2.now f3.now)
@@ -39,11 +39,8 @@ pub fn check_correlation(
         n2,
         n3,
     };
-    let checked = header::bytes::check_header(cell, f1, f2, f3);
-    match checked {
-        Checked::Failed(refusal) => Checked::Failed(refusal),
-        Checked::Sound => check_buffers(cell, a, b, output, work1, work2, work3, scratch),
-    }
+    header::bytes::check_header(cell, f1, f2, f3)?;
+    check_buffers(cell, a, b, output, work1, work2, work3, scratch)
 }
 
 // 6, 13, 28, where the lengths and lists are those of a cell.
@@ -56,7 +53,7 @@ fn check_buffers(
     work2: usize,
     work3: usize,
     scratch: usize,
-) -> Checked
+) -> Result<(), Refusal>
     requires { Sizes cell × (cell.group ≡ 0) × (volume_length P1 (cell_halves cell) ≤ 16777216) }
     ensures { checked_number result
         ≡ first
@@ -64,15 +61,15 @@ fn check_buffers(
 {
     let needed = header::bytes::volume_length(cell);
     if !all_long(needed, a.len(), b.len(), output, work1, work2, work3) {
-        return Checked::Failed(Refusal::BufferLength);
+        return Err(Refusal::BufferLength);
     }
     if scratch < 11520 {
-        return Checked::Failed(Refusal::ScratchTooShort);
+        return Err(Refusal::ScratchTooShort);
     }
     if exceeds_limit((cell.n2 / 2) as usize, a, b) {
-        return Checked::Failed(Refusal::Magnitude);
+        return Err(Refusal::Magnitude);
     }
-    Checked::Sound
+    Ok(())
 }
 
 // The maps, the output and the work volumes are each as long as is asked for.

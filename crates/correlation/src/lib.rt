@@ -20,8 +20,7 @@ ghost use Rattle.correlation.specs.Demands.{Sensitive, SensitiveRound, WithinRan
 ghost use Rattle.correlation.specs.Demands.{SelfAtZero, GreatestAtZero, RowEndsUnread};
 
 use crate::modulo::Axes;
-use output::FillAnswer;
-use refusals::Checked;
+use refusals::Refusal;
 
 // At each shift the sum over all points of a(u) b(u + s), in the layout of the maps. The answer is how many numbers there are, or a
 // refusal, which leaves every buffer as it was. An accepted call leaves the work volumes zero.
@@ -39,7 +38,7 @@ pub fn correlate(
     work2: &mut [u32],
     work3: &mut [u32],
     scratch: &mut [u32],
-) -> FillAnswer
+) -> Result<usize, Refusal>
     ensures { correlation_outcome result
         (buffers output.new work1.new work2.new work3.new scratch.new)
         ≡ correlation_step (header_of (n1, n2, n3) f1.now f2.now f3.now)
@@ -48,7 +47,7 @@ pub fn correlate(
         scratch.old) }
 {
     let count = output.len();
-    let checked = crate::check::check_correlation(
+    crate::check::check_correlation(
         n1,
         n2,
         n3,
@@ -62,22 +61,17 @@ pub fn correlate(
         work2.len(),
         work3.len(),
         scratch.len(),
-    );
-    match checked {
-        Checked::Failed(refusal) => FillAnswer::Refused(refusal),
-        Checked::Sound => {
-            let axes = Axes {
-                n1,
-                n2,
-                n3,
-                f1: lengths::packed(f1),
-                f2: lengths::packed(f2),
-                f3: lengths::packed(f3),
-            };
-            correlate_sound(axes, a, b, output, work1, work2, work3, scratch);
-            FillAnswer::Written(count)
-        }
-    }
+    )?;
+    let axes = Axes {
+        n1,
+        n2,
+        n3,
+        f1: lengths::packed(f1),
+        f2: lengths::packed(f2),
+        f3: lengths::packed(f3),
+    };
+    correlate_sound(axes, a, b, output, work1, work2, work3, scratch);
+    Ok(count)
 }
 
 // The work of a call that no test refuses: the correlation modulo each prime, and both combined.

@@ -2,7 +2,7 @@
 //
 // Every answer has a number: 0, or the paper's number of the refusal. What only an accepted call gives is zero in a refused one.
 ghost use Rattle.std.specs.Prelude.{◌≡◌};
-ghost use Rattle.job.specs.Answers.{said, said_open, said_point, said_factor, said_power, reply_of};
+ghost use Rattle.job.specs.Answers.{said, job_after, said_open, said_point, said_factor, said_power, reply_of};
 ghost use Rattle.combined.specs.Answers.{said_count};
 ghost use Rattle.factor_file.specs.Answers.{said_file, said_header, said_size};
 ghost use Rattle.factor_file.specs.HeaderRead.{named, not_named};
@@ -12,13 +12,12 @@ ghost use Rattle.exported.specs.Answers.{no_axis, no_job, opening_coded, file_an
 ghost use Rattle.exported.specs.Answers.{factor_coded, power_coded, writing_coded};
 ghost use Rattle.exported.specs.Answers.{header_coded, length_coded, count_coded};
 
-use combined::reading::CountAnswer;
-use factor_file::FileAnswer;
-use factor_file::file_header::{FileHeader, HeaderAnswer};
-use factor_file::writer::SizeAnswer;
+use factor_file::FileRefusal;
+use factor_file::file_header::FileHeader;
 use faults::Faults;
-use job::{Answered, Axis, FactorAnswer, Job, OpenAnswer, PointAnswer, PowerAnswer, reply};
-use output::FillAnswer;
+use job::{Axis, Job, reply};
+use numbers::Pair;
+use refusals::Refusal;
 
 // The answer of an opening, a record, a synthesis and an analysis.
 #[repr(C)]
@@ -108,33 +107,33 @@ pub struct CountCoded {
     pub density: i64,
 }
 
-pub fn opening_coded(answer: OpenAnswer) -> JobCoded
+pub fn opening_coded(answer: Result<Job, Refusal>) -> JobCoded
     ensures { result ≡ opening_coded (said_open answer) }
 {
     match answer {
-        OpenAnswer::Opened(opened) => JobCoded {
+        Ok(opened) => JobCoded {
             number: 0,
             job: opened,
         },
-        OpenAnswer::Refused(refusal) => JobCoded {
+        Err(refusal) => JobCoded {
             number: refusals::number_of(refusal),
             job: no_job(),
         },
     }
 }
 
-pub fn file_coded(answer: FileAnswer) -> FileCoded
+pub fn file_coded(answer: Result<Job, FileRefusal>) -> FileCoded
     ensures { result ≡ file_answer_coded (said_file answer) }
 {
     match answer {
-        FileAnswer::Opened(opened) => FileCoded {
+        Ok(opened) => FileCoded {
             number: 0,
             place: 0,
             job: opened,
         },
-        FileAnswer::Refused(refusal, place) => FileCoded {
-            number: refusals::number_of(refusal),
-            place,
+        Err(refused) => FileCoded {
+            number: refusals::number_of(refused.refusal),
+            place: refused.place,
             job: no_job(),
         },
     }
@@ -162,36 +161,38 @@ pub fn faults_coded(answer: Faults) -> FaultsCoded
     }
 }
 
-// Of a record, a synthesis and an analysis.
-pub fn answered_coded(answered: Answered) -> JobCoded
-    ensures { result ≡ record { number = (reply_of (said answered.answer)).number; job = answered.job } }
+// Of a record, a synthesis and an analysis: a refused one leaves the job as it was held.
+pub fn answered_coded(held: Job, answer: Result<Job, Refusal>) -> JobCoded
+    ensures { result ≡ record { number = (reply_of (said answer)).number; job = job_after held answer } }
 {
-    let answer = answered.answer;
-    let next = answered.job;
     JobCoded {
         number: reply::of_answer(answer).number,
-        job: next,
+        job: answer.unwrap_or(held),
     }
 }
 
-pub fn point_coded(answer: PointAnswer) -> PointCoded
+pub fn point_coded(answer: Result<i32, Refusal>) -> PointCoded
     ensures { result ≡ point_coded (said_point answer) }
 {
     match answer {
-        PointAnswer::Density(density) => PointCoded { number: 0, density },
-        PointAnswer::Refused(refusal) => PointCoded {
+        Ok(density) => PointCoded { number: 0, density },
+        Err(refusal) => PointCoded {
             number: refusals::number_of(refusal),
             density: 0,
         },
     }
 }
 
-pub fn factor_coded(answer: FactorAnswer) -> FactorCoded
+pub fn factor_coded(answer: Result<Pair, Refusal>) -> FactorCoded
     ensures { result ≡ factor_coded (said_factor answer) }
 {
     match answer {
-        FactorAnswer::Factor(a, b) => FactorCoded { number: 0, a, b },
-        FactorAnswer::Refused(refusal) => FactorCoded {
+        Ok(x) => FactorCoded {
+            number: 0,
+            a: x.re,
+            b: x.im,
+        },
+        Err(refusal) => FactorCoded {
             number: refusals::number_of(refusal),
             a: 0,
             b: 0,
@@ -199,36 +200,36 @@ pub fn factor_coded(answer: FactorAnswer) -> FactorCoded
     }
 }
 
-pub fn power_coded(answer: PowerAnswer) -> PowerCoded
+pub fn power_coded(answer: Result<u32, Refusal>) -> PowerCoded
     ensures { result ≡ power_coded (said_power answer) }
 {
     match answer {
-        PowerAnswer::Power(power) => PowerCoded { number: 0, power },
-        PowerAnswer::Refused(refusal) => PowerCoded {
+        Ok(power) => PowerCoded { number: 0, power },
+        Err(refusal) => PowerCoded {
             number: refusals::number_of(refusal),
             power: 0,
         },
     }
 }
 
-pub fn filled_coded(answer: FillAnswer) -> WriteCoded
+pub fn filled_coded(answer: Result<usize, Refusal>) -> WriteCoded
     ensures { result ≡ writing_coded (said_fill answer) }
 {
     match answer {
-        FillAnswer::Written(written) => WriteCoded { number: 0, written },
-        FillAnswer::Refused(refusal) => WriteCoded {
+        Ok(written) => WriteCoded { number: 0, written },
+        Err(refusal) => WriteCoded {
             number: refusals::number_of(refusal),
             written: 0,
         },
     }
 }
 
-pub fn header_coded(answer: HeaderAnswer) -> HeaderCoded
+pub fn header_coded(answer: Result<FileHeader, Refusal>) -> HeaderCoded
     ensures { result ≡ header_coded (said_header answer) }
 {
     match answer {
-        HeaderAnswer::Header(found) => header_named(found),
-        HeaderAnswer::Refused(refusal) => header_refused(refusals::number_of(refusal)),
+        Ok(found) => header_named(found),
+        Err(refusal) => header_refused(refusals::number_of(refusal)),
     }
 }
 
@@ -265,24 +266,24 @@ fn header_refused(number: u32) -> HeaderCoded
     }
 }
 
-pub fn length_coded(answer: SizeAnswer) -> LengthCoded
+pub fn length_coded(answer: Result<usize, Refusal>) -> LengthCoded
     ensures { result ≡ length_coded (said_size answer) }
 {
     match answer {
-        SizeAnswer::Bytes(length) => LengthCoded { number: 0, length },
-        SizeAnswer::Refused(refusal) => LengthCoded {
+        Ok(length) => LengthCoded { number: 0, length },
+        Err(refusal) => LengthCoded {
             number: refusals::number_of(refusal),
             length: 0,
         },
     }
 }
 
-pub fn count_coded(answer: CountAnswer) -> CountCoded
+pub fn count_coded(answer: Result<i64, Refusal>) -> CountCoded
     ensures { result ≡ count_coded (said_count answer) }
 {
     match answer {
-        CountAnswer::Count(density) => CountCoded { number: 0, density },
-        CountAnswer::Refused(refusal) => CountCoded {
+        Ok(density) => CountCoded { number: 0, density },
+        Err(refusal) => CountCoded {
             number: refusals::number_of(refusal),
             density: 0,
         },

@@ -1,13 +1,14 @@
 // What the calls of a scheduler answer, as numbers, for programs in C: crate exported passes them on.
 //
 // A lane is 1 to 8; 0 stands for none, where no lane runs and in a refused call.
-ghost use Rattle.std.specs.Prelude.{◌≡◌};
-ghost use Rattle.scheduler.specs.Answers.{said_lane, said_next, said_turn};
+ghost use Rattle.std.specs.Prelude.{◌≡◌, []};
+ghost use Rattle.scheduler.specs.Answers.{said_lane, scheduler_after, said_next, said_turn, turn_outcome};
 ghost use Rattle.exported.specs.Answers.{no_job};
-ghost use Rattle.exported.specs.Lanes.{next_coded, stepped_coded, turned_coded};
+ghost use Rattle.exported.specs.Lanes.{next_coded, stepped_coded, turned_coded, turn_coded};
 
-use job::{Job, reply};
-use scheduler::{LaneAnswered, NextAnswer, Scheduler, TurnAnswer, TurnAnswered};
+use job::Job;
+use refusals::Refusal;
+use scheduler::{Progress, Scheduler, Turned};
 
 // The lane that the next turn serves.
 #[repr(C)]
@@ -36,46 +37,57 @@ pub struct TurnCoded {
     pub scheduler: Scheduler,
 }
 
-pub fn next_coded(answer: NextAnswer) -> NextCoded
+pub fn next_coded(answer: Result<Option<u32>, Refusal>) -> NextCoded
     ensures { result ≡ next_coded (said_next answer) }
 {
     match answer {
-        NextAnswer::Lane(lane) => NextCoded { number: 0, lane },
-        NextAnswer::Idle => NextCoded { number: 0, lane: 0 },
-        NextAnswer::Refused(refusal) => NextCoded {
+        Ok(Some(lane)) => NextCoded { number: 0, lane },
+        Ok(None) => NextCoded { number: 0, lane: 0 },
+        Err(refusal) => NextCoded {
             number: refusals::number_of(refusal),
             lane: 0,
         },
     }
 }
 
-pub fn lane_coded(answered: LaneAnswered) -> LaneCoded
-    ensures { result ≡ stepped_coded (said_lane answered.answer) answered.scheduler }
+// A refused call leaves the scheduler as it was held.
+pub fn lane_coded(held: Scheduler, answer: Result<Scheduler, Refusal>) -> LaneCoded
+    ensures { result ≡ stepped_coded (said_lane answer) (scheduler_after held answer) }
 {
-    let answer = answered.answer;
-    let scheduler = answered.scheduler;
-    LaneCoded {
-        number: reply::of_answer(answer).number,
-        scheduler,
+    match answer {
+        Ok(scheduler) => LaneCoded {
+            number: 0,
+            scheduler,
+        },
+        Err(refusal) => LaneCoded {
+            number: refusals::number_of(refusal),
+            scheduler: held,
+        },
     }
 }
 
-pub fn turn_coded(answered: TurnAnswered) -> TurnCoded
-    ensures { result ≡ turned_coded (said_turn answered.answer) answered.scheduler }
+pub fn turn_coded(held: Scheduler, answer: Result<Turned, Refusal>) -> TurnCoded
+    ensures { result ≡ (turn_coded (turn_outcome held answer [] [])).0 }
 {
-    let answer = answered.answer;
-    let scheduler = answered.scheduler;
     match answer {
-        TurnAnswer::Idle => unfinished(0, 0, scheduler),
-        TurnAnswer::Served(lane) => unfinished(0, lane, scheduler),
-        TurnAnswer::Finished(lane, job) => TurnCoded {
+        Ok(turned) => turned_coded(turned.progress, turned.scheduler),
+        Err(refusal) => unfinished(refusals::number_of(refusal), 0, held),
+    }
+}
+
+fn turned_coded(progress: Progress, scheduler: Scheduler) -> TurnCoded
+    ensures { result ≡ turned_coded (said_turn progress) scheduler }
+{
+    match progress {
+        Progress::Idle => unfinished(0, 0, scheduler),
+        Progress::Served(lane) => unfinished(0, lane, scheduler),
+        Progress::Finished(lane, job) => TurnCoded {
             number: 0,
             lane,
             finished: 1,
             job,
             scheduler,
         },
-        TurnAnswer::Refused(refusal) => unfinished(refusals::number_of(refusal), 0, scheduler),
     }
 }
 

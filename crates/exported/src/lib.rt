@@ -12,7 +12,7 @@ pub mod lanes; // lanes.rt: what the calls of a scheduler answer, as numbers
 
 ghost use Rattle.std.specs.Prelude.{◌≡◌};
 ghost use Rattle.line.specs.Line.{line_step};
-ghost use Rattle.line.specs.Answers.{said_line};
+ghost use Rattle.refusals.specs.Checks.{checked_number};
 ghost use Rattle.job.specs.Job.{open_step, record_step, synthesis_step, analysis_step, point_step, factor_step};
 ghost use Rattle.job.specs.Job.{position, map_power_step, factor_power_step};
 ghost use Rattle.factor_file.specs.File.{file_step, write_step, length_step};
@@ -43,7 +43,7 @@ use cell::operations::{Point, UnitCell};
 use combined::reading;
 use factor_file::{file_header, open_file};
 use job::{GridPoint, Job, Reflection};
-use line::LineAnswer;
+use refusals::Refusal;
 use scheduler::Scheduler;
 
 // The version of the calls, which RECORDER_VERSION of the header is too.
@@ -126,7 +126,7 @@ pub fn recorder_write_file(held: Job, volume: &[u32], out: &mut [u8]) -> WriteCo
 pub fn recorder_record(held: Job, at: Reflection, a: u32, b: u32, volume: &mut [u32]) -> JobCoded
     ensures { (result, volume.new) ≡ record_coded (record_step held at a b volume.old) }
 {
-    crate::answers::answered_coded(held.record(at, a, b, volume))
+    crate::answers::answered_coded(held, held.record(at, a, b, volume))
 }
 
 // From factors to the map.
@@ -134,7 +134,7 @@ pub fn recorder_synthesis(held: Job, volume: &mut [u32], scratch: &mut [u32]) ->
     ensures { (result, volume.new, scratch.new)
         ≡ work_coded (synthesis_step held volume.old scratch.old) }
 {
-    crate::answers::answered_coded(held.synthesis(volume, scratch))
+    crate::answers::answered_coded(held, held.synthesis(volume, scratch))
 }
 
 // From the map to its factors.
@@ -142,7 +142,7 @@ pub fn recorder_analysis(held: Job, volume: &mut [u32], scratch: &mut [u32]) -> 
     ensures { (result, volume.new, scratch.new)
         ≡ work_coded (analysis_step held volume.old scratch.old) }
 {
-    crate::answers::answered_coded(held.analysis(volume, scratch))
+    crate::answers::answered_coded(held, held.analysis(volume, scratch))
 }
 
 // Reads a point of the map.
@@ -295,12 +295,12 @@ pub fn recorder_line(
     line_number(line::line(modulus, kind, direction, length, factors, line, scratch))
 }
 
-fn line_number(answer: LineAnswer) -> u32
-    ensures { result ≡ said_line answer }
+fn line_number(answer: Result<(), Refusal>) -> u32
+    ensures { result ≡ checked_number answer }
 {
     match answer {
-        LineAnswer::Transformed => 0,
-        LineAnswer::Refused(refusal) => refusals::number_of(refusal),
+        Ok(()) => 0,
+        Err(refusal) => refusals::number_of(refusal),
     }
 }
 
@@ -364,7 +364,7 @@ pub fn recorder_scheduler_enter(
     ensures { (result, scratch.new)
         ≡ enter_coded (enter_step held lane job volume.now scratch.old) }
 {
-    crate::lanes::lane_coded(held.enter(lane, job, volume, scratch))
+    crate::lanes::lane_coded(held, held.enter(lane, job, volume, scratch))
 }
 
 // One line of the lane whose turn is next, in the volume of that lane.
@@ -376,12 +376,12 @@ pub fn recorder_scheduler_turn(
     ensures { (result, volume.new, scratch.new)
         ≡ turn_coded (turn_step held volume.old scratch.old) }
 {
-    crate::lanes::turn_coded(held.turn(volume, scratch))
+    crate::lanes::turn_coded(held, held.turn(volume, scratch))
 }
 
 // A job leaves its lane before it is finished.
 pub fn recorder_scheduler_withdraw(held: Scheduler, lane: u32) -> LaneCoded
     ensures { result ≡ lane_coded (withdraw_step held lane) }
 {
-    crate::lanes::lane_coded(held.withdraw(lane))
+    crate::lanes::lane_coded(held, held.withdraw(lane))
 }

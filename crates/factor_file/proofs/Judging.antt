@@ -26,7 +26,7 @@ use Rattle.cell.specs.Consistency.{record_on}
 use Rattle.cell.proofs.OrbitPlaces.{orbit_place_low, same_place}
 use Rattle.numbers.specs.Value.{value}
 use Rattle.file_format.specs.declared.FileRecord.{FileRecord}
-use Rattle.file_format.specs.declared.reader.Found.TheVariants.{Record, End}
+use Rattle.std.specs.Prelude.{Some, None}
 use Rattle.file_format.specs.Format.{records_in, shape_tests, count_at}
 use Rattle.file_format.specs.Walk.{found_at, place_after}
 use Rattle.factor_file.specs.File.{index_in, judge_tests, Judgement, taken, refused_at, judged, record_all_on}
@@ -101,11 +101,11 @@ module _ {μ : ℕ} {cell : UnitCell} {file marks : List ℕ} {at place : ℕ} (
   abbrev whole : Judgement
   whole = judged μ cell.group (cell_lengths cell) [] (records_in file)
 
-  pub judging_end : End ≡ found_at file at → taken ≡ whole
+  pub judging_end : None ≡ found_at file at → taken ≡ whole
   unfolding judged
   judging_end e = sym (s.rest ∙ ap (judged μ cell.group (cell_lengths cell) s.before) (walk_end s.walked sound e))
 
-  module _ (c : FileRecord) (found : Record c ≡ found_at file at) {after : ℕ} (on : after ≡ place_after file at) where
+  module _ (c : FileRecord) (found : Some c ≡ found_at file at) {after : ℕ} (on : after ≡ place_after file at) where
     abbrev number : ℕ
     number = first (judge_tests μ cell.group (cell_lengths cell) s.before (index_in c) c.a c.b)
 
@@ -158,11 +158,11 @@ recording_start μ cell file v e t = let w = walk_start file e in
     }
 
 module _ {μ : ℕ} {cell : UnitCell} {file whole v : List ℕ} {at : ℕ} (s : Recording μ cell file whole v at) (sound : 0 ≡ first (shape_tests file)) where
-  pub recording_end : End ≡ found_at file at → v ≡ whole
+  pub recording_end : None ≡ found_at file at → v ≡ whole
   unfolding record_all_on
   recording_end e = sym (s.rest ∙ ap (λ cs. record_all_on (cell_group cell) (cell_halves cell) μ cs v) (walk_end s.walked sound e))
 
-  module _ (c : FileRecord) (found : Record c ≡ found_at file at) {after : ℕ} (on : after ≡ place_after file at) where
+  module _ (c : FileRecord) (found : Some c ≡ found_at file at) {after : ℕ} (on : after ≡ place_after file at) where
     first_passes : (0 ≡ first (judge_tests μ cell.group (cell_lengths cell) s.before (index_in c) c.a c.b)) × (judged μ cell.group (cell_lengths cell) (index_in c ∷ s.before) (left file after (s.place + 1)) ≡ taken)
     first_passes = taken_first μ cell.group (cell_lengths cell) s.before c _ (ap (judged μ cell.group (cell_lengths cell) s.before) (sym (walk_next s.walked sound c found on).1) ∙ s.passes)
 

@@ -7,7 +7,7 @@ use native.Mathlib.Numerals.{add-one}
 use lib.ListN.{length}
 use Rattle.refusals.specs.Refusals.{first}
 use Rattle.file_format.specs.declared.FileRecord.{FileRecord}
-use Rattle.file_format.specs.declared.reader.Found.TheVariants.{Record, End}
+use Rattle.std.specs.Prelude.{Some, None}
 use Rattle.file_format.specs.Format.{count_at, record_count, records_from, records_in, shape_tests}
 use Rattle.file_format.specs.Walk.{found_at, place_after}
 use Rattle.file_format.proofs.shape.Shapes.{filled_by_lem}
@@ -29,7 +29,7 @@ walk_start file {at} e =
 
 module _ {file : List ℕ} {at place : ℕ} (w : Walked file at place) (sound : 0 ≡ first (shape_tests file)) where
   -- at the end of the file no record is left
-  pub walk_end : End ≡ found_at file at → left file at place ≡ []
+  pub walk_end : None ≡ found_at file at → left file at place ≡ []
   unfolding records_from
   walk_end e =
       let f = filled_by_lem file sound in
@@ -38,7 +38,7 @@ module _ {file : List ℕ} {at place : ℕ} (w : Walked file at place) (sound : 
       ap (records_from file at) n
 
   -- a record that is found is the first of those left
-  module _ (c : FileRecord) (found : Record c ≡ found_at file at) where
+  module _ (c : FileRecord) (found : Some c ≡ found_at file at) where
     pub record_left : place < record_count file
     record_left =
         let f = filled_by_lem file sound in

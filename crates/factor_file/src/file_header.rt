@@ -15,7 +15,7 @@ use cell::operations::UnitCell;
 use file_format::places::Places;
 use header::bytes;
 use job::Axis;
-use refusals::{Checked, Refusal};
+use refusals::Refusal;
 
 // What a header names: group, modulus, the three axes, how many records follow, and how many numbers the volume has.
 #[derive(Clone, Copy)]
@@ -29,26 +29,17 @@ pub struct FileHeader {
     pub numbers: u32,
 }
 
-#[derive(Clone, Copy)]
-pub enum HeaderAnswer {
-    Header(FileHeader),
-    Refused(Refusal),
-}
-
 // Shape, header.
-pub fn file_header(file: &[u8]) -> HeaderAnswer
+pub fn file_header(file: &[u8]) -> Result<FileHeader, Refusal>
     ensures { said_header result ≡ header_step file.now }
 {
     let places = file_format::places::places_of(file);
-    let checked = file_format::shape::check_shape(file, places);
-    match checked {
-        Checked::Failed(refusal) => return HeaderAnswer::Refused(refusal),
-        Checked::Sound => return sound_header(file, places),
-    }
+    file_format::shape::check_shape(file, places)?;
+    sound_header(file, places)
 }
 
 // The header of a file of sound shape. The lists are parts of the file.
-fn sound_header(file: &[u8], places: Places) -> HeaderAnswer
+fn sound_header(file: &[u8], places: Places) -> Result<FileHeader, Refusal>
     requires { PlacesOf file.now places × (0 ≡ first (shape_tests file.now)) }
     ensures { said_header result ≡ header_step file.now }
 {
@@ -77,27 +68,24 @@ fn judged_header(
     f2: &[u8],
     f3: &[u8],
     records: u32,
-) -> HeaderAnswer
+) -> Result<FileHeader, Refusal>
     ensures { said_header result
         ≡ judged_header modulus (cell_header cell f1.now f2.now f3.now) records }
 {
-    let checked = check_opening(modulus, cell, f1, f2, f3);
-    match checked {
-        Checked::Failed(refusal) => HeaderAnswer::Refused(refusal),
-        Checked::Sound => HeaderAnswer::Header(named(modulus, cell, f1, f2, f3, records)),
-    }
+    check_opening(modulus, cell, f1, f2, f3)?;
+    Ok(named(modulus, cell, f1, f2, f3, records))
 }
 
 // 8, 26, then 3, 4, 5, 9.
-fn check_opening(modulus: u32, cell: UnitCell, f1: &[u8], f2: &[u8], f3: &[u8]) -> Checked
+fn check_opening(modulus: u32, cell: UnitCell, f1: &[u8], f2: &[u8], f3: &[u8]) -> Result<(), Refusal>
     ensures { checked_number result
         ≡ first (opening_tests modulus (cell_header cell f1.now f2.now f3.now)) }
 {
     if 5 <= cell.group {
-        return Checked::Failed(Refusal::Group);
+        return Err(Refusal::Group);
     }
     if !numbers::is_modulus(modulus) {
-        return Checked::Failed(Refusal::Modulus);
+        return Err(Refusal::Modulus);
     }
     bytes::check_header(cell, f1, f2, f3)
 }

@@ -7,13 +7,13 @@ ghost use Rattle.job.specs.Answers.{open_outcome};
 ghost use Rattle.factor_file.specs.File.{shape_tests, modulus_in, header_in, file_step};
 ghost use Rattle.factor_file.specs.Answers.{file_outcome};
 
-use crate::{FileAnswer, records};
+use crate::{FileRefusal, records};
 use file_format::places::Places;
-use job::OpenAnswer;
-use refusals::Checked;
+use job::Job;
+use refusals::Refusal;
 
 // The opening that the header names. The lists are parts of the file.
-fn open_header(file: &[u8], places: Places, volume: &mut [u32]) -> OpenAnswer
+fn open_header(file: &[u8], places: Places, volume: &mut [u32]) -> Result<Job, Refusal>
     requires { PlacesOf file.now places × (0 ≡ first (shape_tests file.now)) }
     ensures { open_outcome result volume.new
         ≡ open_step (modulus_in file.now) (header_in file.now) 0 volume.old }
@@ -41,25 +41,19 @@ fn open_header(file: &[u8], places: Places, volume: &mut [u32]) -> OpenAnswer
 }
 
 // The header, then the records, of a file of sound shape.
-fn open_sound(file: &[u8], places: Places, volume: &mut [u32]) -> FileAnswer
+fn open_sound(file: &[u8], places: Places, volume: &mut [u32]) -> Result<Job, FileRefusal>
     requires { PlacesOf file.now places × (0 ≡ first (shape_tests file.now)) }
     ensures { file_outcome result volume.new ≡ file_step file.now volume.old }
 {
-    let answer = open_header(file, places, volume);
-    match answer {
-        OpenAnswer::Refused(refusal) => return FileAnswer::Refused(refusal, 0),
-        OpenAnswer::Opened(job) => return records::feed_records(file, places, job, volume),
-    }
+    let job = open_header(file, places, volume)?;
+    records::feed_records(file, places, job, volume)
 }
 
 // Shape, header, records.
-pub fn open_file(file: &[u8], volume: &mut [u32]) -> FileAnswer
+pub fn open_file(file: &[u8], volume: &mut [u32]) -> Result<Job, FileRefusal>
     ensures { file_outcome result volume.new ≡ file_step file.now volume.old }
 {
     let places = file_format::places::places_of(file);
-    let checked = file_format::shape::check_shape(file, places);
-    match checked {
-        Checked::Failed(refusal) => return FileAnswer::Refused(refusal, 0),
-        Checked::Sound => return open_sound(file, places, volume),
-    }
+    file_format::shape::check_shape(file, places)?;
+    open_sound(file, places, volume)
 }

@@ -17,24 +17,16 @@ ghost use Rattle.factor_file.specs.File.{judge_tests, orbit_seen, taken, judged,
 ghost use Rattle.factor_file.specs.Marks.{Marked, IsEmpty};
 ghost use Rattle.factor_file.specs.Answers.{said_verdict, file_outcome};
 
-use crate::FileAnswer;
+use crate::FileRefusal;
 use cell::operations::{Index, UnitCell};
 use file_format::places::Places;
 use file_format::reader;
-use file_format::reader::Found;
 use job::Job;
 use numbers::Pair;
-use refusals::{Checked, Refusal};
-
-// What is made of the records of a file: all are taken, or the refusal of one, with its place from 0.
-#[derive(Clone, Copy)]
-enum Verdict {
-    Taken,
-    Refused(Refusal, u32),
-}
+use refusals::Refusal;
 
 // The records of a file of sound shape, in a job that was opened: all are recorded, or one is refused, and the volume is left zero.
-pub fn feed_records(file: &[u8], places: Places, job: Job, volume: &mut [u32]) -> FileAnswer
+pub fn feed_records(file: &[u8], places: Places, job: Job, volume: &mut [u32]) -> Result<Job, FileRefusal>
     requires { PlacesOf file.now places
         × (0 ≡ first (shape_tests file.now))
         × IsEmpty (job_cell job) volume.old
@@ -46,13 +38,9 @@ pub fn feed_records(file: &[u8], places: Places, job: Job, volume: &mut [u32]) -
     let start = file_format::places::first_record(places);
     let verdict = judge_records(file, start, job.modulus, cell, volume);
     slices::buffers::zero(volume);
-    match verdict {
-        Verdict::Refused(refusal, place) => return FileAnswer::Refused(refusal, place),
-        Verdict::Taken => {
-            record_all(file, start, job.modulus, cell, volume);
-            return FileAnswer::Opened(job);
-        }
-    }
+    verdict?;
+    record_all(file, start, job.modulus, cell, volume);
+    Ok(job)
 }
 
 // The first walk, on numbers that are zero: afterwards they are marks.
@@ -62,7 +50,7 @@ fn judge_records(
     modulus: u32,
     cell: UnitCell,
     marks: &mut [u32],
-) -> Verdict
+) -> Result<(), FileRefusal>
     requires { (start ≡ count_at file.now + 4)
         × (0 ≡ first (shape_tests file.now))
         × IsEmpty cell marks.old
@@ -74,9 +62,8 @@ fn judge_records(
     let mut place = 0;
     loop {
         let step = reader::read_record(file, at);
-        let found = step.found;
-        let Found::Record(c) = found else {
-            return Verdict::Taken;
+        let Some(c) = step.found else {
+            return Ok(());
         };
         let j = Index {
             h: c.h,
@@ -84,9 +71,8 @@ fn judge_records(
             l: c.l,
         };
         let x = Pair { re: c.a, im: c.b };
-        let checked = judge_record(modulus, cell, j, x, marks);
-        if let Checked::Failed(refusal) = checked {
-            return Verdict::Refused(refusal, place);
+        if let Err(refusal) = judge_record(modulus, cell, j, x, marks) {
+            return Err(FileRefusal { refusal, place });
         }
         place += 1;
         at = step.after;
@@ -94,7 +80,7 @@ fn judge_records(
 }
 
 // 10, 7, 12, 24 of one record. The orbit of one that is taken is marked.
-fn judge_record(modulus: u32, cell: UnitCell, j: Index, x: Pair, marks: &mut [u32]) -> Checked
+fn judge_record(modulus: u32, cell: UnitCell, j: Index, x: Pair, marks: &mut [u32]) -> Result<(), Refusal>
     requires { IsVolume cell marks.old × IsModulus modulus }
     ensures { (before : List J) → Marked (cell_group cell) (cell_halves cell) marks.old before
         →
@@ -104,15 +90,12 @@ fn judge_record(modulus: u32, cell: UnitCell, j: Index, x: Pair, marks: &mut [u3
         (checked_number result ≡ 0 →
         Marked (cell_group cell) (cell_halves cell) marks.new (triple_of j ∷ before)) }
 {
-    let own = job::check::record::check_own(modulus, cell, j, x);
-    match own {
-        Checked::Failed(refusal) => Checked::Failed(refusal),
-        Checked::Sound => mark_orbit(cell, j, marks),
-    }
+    job::check::record::check_own(modulus, cell, j, x)?;
+    mark_orbit(cell, j, marks)
 }
 
 // 24 if the orbit is marked, and else it is marked.
-fn mark_orbit(cell: UnitCell, j: Index, marks: &mut [u32]) -> Checked
+fn mark_orbit(cell: UnitCell, j: Index, marks: &mut [u32]) -> Result<(), Refusal>
     requires { IsVolume cell marks.old × Within cell j }
     ensures { (before : List J) → Marked (cell_group cell) (cell_halves cell) marks.old before
         → (checked_number result ≡ first (orbit_seen cell.group (cell_lengths cell) before (triple_of j)))
@@ -122,10 +105,10 @@ fn mark_orbit(cell: UnitCell, j: Index, marks: &mut [u32]) -> Checked
 {
     let place = volume::orbit_place::orbit_place(cell, j);
     if marks[place] != 0 {
-        return Checked::Failed(Refusal::Occupied);
+        return Err(Refusal::Occupied);
     }
     marks[place] = 1;
-    Checked::Sound
+    Ok(())
 }
 
 // The second walk: no test is left to make.
@@ -142,8 +125,7 @@ fn record_all(file: &[u8], start: usize, modulus: u32, cell: UnitCell, volume: &
     let mut at = start;
     loop {
         let step = reader::read_record(file, at);
-        let found = step.found;
-        let Found::Record(c) = found else {
+        let Some(c) = step.found else {
             return;
         };
         let j = Index {

@@ -13,8 +13,7 @@ use crate::file::records;
 use cell::operations::UnitCell;
 use job::check::synthesis;
 use job::{Job, valid};
-use output::FillAnswer;
-use refusals::{Checked, Refusal};
+use refusals::Refusal;
 
 // 18, and the file. Where all factors are zero it is a file of no records.
 fn write_factors(
@@ -25,37 +24,34 @@ fn write_factors(
     f3: u32,
     volume: &[u32],
     out: &mut [u8],
-) -> FillAnswer
+) -> Result<usize, Refusal>
     requires { IsFactors modulus cell volume.now × (length volume.now ≤ 16777216) }
     ensures { fill_outcome result out.new
         ≡ filed_with modulus cell f1 f2 f3 volume.now out.old }
 {
     let count = records::count_records(modulus, cell, volume);
     if out.len() < file_format::layout::file_length(modulus, f1, f2, f3, count) {
-        return FillAnswer::Refused(Refusal::OutputTooShort);
+        return Err(Refusal::OutputTooShort);
     }
-    let written = crate::file::put_file(modulus, cell, f1, f2, f3, count, volume, out);
-    FillAnswer::Written(written)
+    Ok(crate::file::put_file(
+        modulus, cell, f1, f2, f3, count, volume, out,
+    ))
 }
 
 // The file of the job whose factors the volume holds; the places of the output beyond it are as they were. Job and volume are asked
 // for what a synthesis asks: 25, 23, 6, 7, 14. The writer needs no scratch: the check is told of one that is long enough.
-pub fn write_file(job: Job, volume: &[u32], out: &mut [u8]) -> FillAnswer
+pub fn write_file(job: Job, volume: &[u32], out: &mut [u8]) -> Result<usize, Refusal>
     ensures { fill_outcome result out.new ≡ write_step job volume.now out.old }
 {
     let cell = job.unit_cell();
-    let checked = synthesis::check_synthesis(
+    synthesis::check_synthesis(
         valid::valid_job(job),
         job.state,
         job.modulus,
         cell,
         volume,
         11520,
-    );
-    match checked {
-        Checked::Failed(refusal) => return FillAnswer::Refused(refusal),
-        Checked::Sound => {}
-    }
+    )?;
     write_factors(
         job.modulus,
         cell,
@@ -67,32 +63,21 @@ pub fn write_file(job: Job, volume: &[u32], out: &mut [u8]) -> FillAnswer
     )
 }
 
-// How many bytes a file has, or why it has none.
-#[derive(Clone, Copy)]
-pub enum SizeAnswer {
-    Bytes(usize),
-    Refused(Refusal),
-}
-
 // How many places `write_file` needs for this job and volume: the bytes of the file. No output is lent, and nothing is written.
-pub fn file_length(job: Job, volume: &[u32]) -> SizeAnswer
+pub fn file_length(job: Job, volume: &[u32]) -> Result<usize, Refusal>
     ensures { said_size result ≡ length_step job volume.now }
 {
     let cell = job.unit_cell();
-    let checked = synthesis::check_synthesis(
+    synthesis::check_synthesis(
         valid::valid_job(job),
         job.state,
         job.modulus,
         cell,
         volume,
         11520,
-    );
-    match checked {
-        Checked::Failed(refusal) => return SizeAnswer::Refused(refusal),
-        Checked::Sound => {}
-    }
+    )?;
     let count = records::count_records(job.modulus, cell, volume);
-    SizeAnswer::Bytes(file_format::layout::file_length(
+    Ok(file_format::layout::file_length(
         job.modulus,
         job.a.factors,
         job.b.factors,

@@ -9,21 +9,20 @@ ghost use Rattle.output.specs.Written.{Wrote};
 ghost use Rattle.output.specs.Answers.{fill_outcome};
 ghost use Rattle.factor_lists.specs.Chosen.{next_factor, factored, list_step, ChosenLists};
 
-use output::FillAnswer;
 use refusals::Refusal;
 
 // The list goes to the output's first places, or the call is refused and changes nothing.
-pub fn factor_list(length: u32, out: &mut [u8]) -> FillAnswer
+pub fn factor_list(length: u32, out: &mut [u8]) -> Result<usize, Refusal>
     ensures { fill_outcome result out.new ≡ list_step length out.old }
 {
     if !lengths::admitted(length) {
-        return FillAnswer::Refused(Refusal::Length);
+        return Err(Refusal::Length);
     }
     let half = length / 2;
     if out.len() < count_factors(half) {
-        return FillAnswer::Refused(Refusal::OutputTooShort);
+        return Err(Refusal::OutputTooShort);
     }
-    FillAnswer::Written(put_factors(half, out))
+    Ok(put_factors(half, out))
 }
 
 // How many there are: a byte beyond the output is counted and not stored.

@@ -28,7 +28,7 @@ use cell::operations::{Index, UnitCell};
 use file_format::places::Places;
 use file_format::{integers, reader};
 use numbers::Pair;
-use refusals::{Checked, Refusal};
+use refusals::Refusal;
 
 // No record at fault, one, or two: the places, from 0, rise.
 #[derive(Clone, Copy)]
@@ -48,10 +48,9 @@ pub fn file_faults(file: &[u8]) -> Faults
     ensures { said_faults result ≡ faults_in file.now }
 {
     let places = file_format::places::places_of(file);
-    let checked = file_format::shape::check_shape(file, places);
-    match checked {
-        Checked::Failed(_) => return Faults::NoFault,
-        Checked::Sound => return sound_faults(file, places),
+    match file_format::shape::check_shape(file, places) {
+        Ok(()) => sound_faults(file, places),
+        Err(_) => Faults::NoFault,
     }
 }
 
@@ -76,8 +75,7 @@ fn sound_faults(file: &[u8], places: Places) -> Faults
     requires { PlacesOf file.now places × (0 ≡ first (shape_tests file.now)) }
     ensures { said_faults result ≡ faults_in file.now }
 {
-    let checked = check_header(file, places);
-    if let Checked::Failed(_) = checked {
+    if check_header(file, places).is_err() {
         return Faults::NoFault;
     }
     let start = file_format::places::first_record(places);
@@ -87,7 +85,7 @@ fn sound_faults(file: &[u8], places: Places) -> Faults
 }
 
 // 8, 26, 3, 4, 5, 9. The lists are parts of the file.
-fn check_header(file: &[u8], places: Places) -> Checked
+fn check_header(file: &[u8], places: Places) -> Result<(), Refusal>
     requires { PlacesOf file.now places × (0 ≡ first (shape_tests file.now)) }
     ensures { checked_number result
         ≡ first (header_tests (modulus_in file.now) (header_in file.now)) }
@@ -95,10 +93,10 @@ fn check_header(file: &[u8], places: Places) -> Checked
     let header = file_format::places::header_numbers(file);
     let cell = header.cell;
     if 5 <= cell.group {
-        return Checked::Failed(Refusal::Group);
+        return Err(Refusal::Group);
     }
     if !numbers::is_modulus(header.modulus) {
-        return Checked::Failed(Refusal::Modulus);
+        return Err(Refusal::Modulus);
     }
     let start1 = places.list1 + 1;
     let end1 = places.list2;
@@ -161,11 +159,7 @@ fn sound_at(file: &[u8], at: usize, modulus: u32, cell: UnitCell) -> bool
         l: c.l,
     };
     let x = Pair { re: c.a, im: c.b };
-    let checked = job::check::record::check_own(modulus, cell, j, x);
-    match checked {
-        Checked::Failed(_) => return false,
-        Checked::Sound => return true,
-    }
+    job::check::record::check_own(modulus, cell, j, x).is_ok()
 }
 
 // The place of its orbit, where its index lies in the cell.

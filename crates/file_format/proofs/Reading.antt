@@ -10,14 +10,14 @@ use lib.Dec.{leb}
 use borrow.Author.Tests.{le-leb, lt-leb, leb-true, leb-false}
 use native.Mathlib.Nat.{eq-zero-or-pos}
 use Rattle.file_format.specs.declared.FileRecord.{FileRecord}
-use Rattle.file_format.specs.declared.reader.Found.TheVariants.{Record, End}
+use Rattle.std.specs.Prelude.{Some, None}
 use Rattle.file_format.specs.Format.{record_at}
 use Rattle.file_format.specs.Walk.{record_stands, found_at, place_after}
 
-record_not_end : (c : FileRecord) → Record c ≡ End → ⊥
+record_not_end : (c : FileRecord) → Some c ≡ None → ⊥
 record_not_end c e = let z : ◌≡◌ {A = ℕ} 0 1 = cc in omega arith
 
-same_record : (c d : FileRecord) → Record c ≡ Record d → c ≡ d
+same_record : (c d : FileRecord) → Some c ≡ Some d → c ≡ d
 same_record c d e = cc
 
 module _ (file : List ℕ) (at : ℕ) where
@@ -48,11 +48,11 @@ module _ (file : List ℕ) (at : ℕ) where
 
   -- ---- what is found there
 
-  pub at_end : length file < at + 14 → End ≡ found_at file at
+  pub at_end : length file < at + 14 → None ≡ found_at file at
   unfolding found_at
   at_end h = rw (sym (stands_not h))
 
-  pub at_record : (c : FileRecord) → c ≡ record_at file at → at + 14 ≤ length file → Record c ≡ found_at file at
+  pub at_record : (c : FileRecord) → c ≡ record_at file at → at + 14 ≤ length file → Some c ≡ found_at file at
   unfolding found_at
   at_record c e h = rw (sym (stands h), e)
 
@@ -68,14 +68,14 @@ module _ (file : List ℕ) (at : ℕ) where
 
   -- ---- and back: where the reader stands, by what it finds
 
-  pub end_found : End ≡ found_at file at → length file < at + 14
+  pub end_found : None ≡ found_at file at → length file < at + 14
   end_found e =
       ⊎_elim
       (λ (z : at + 14 - length file ≡ 0). absurd (record_not_end (record_at file at) (at_record (record_at file at) refl (omega arith) ∙ sym e)))
       (λ l. omega arith)
       (eq-zero-or-pos (at + 14 - length file))
 
-  module _ (c : FileRecord) (e : Record c ≡ found_at file at) where
+  module _ (c : FileRecord) (e : Some c ≡ found_at file at) where
     pub record_inside : at + 14 ≤ length file
     record_inside =
         ⊎_elim

@@ -4,13 +4,13 @@ use mathlib.Core.List.{List, ◌∷◌}
 use Prim.Native.Nat.{ℕ, zero, suc, ◌+◌, ◌*◌, ◌<◌, ◌≤◌}
 use native.Mathlib.Omega.{arith}
 use lib.ListN.{length, replicate}
-use Rattle.file_format.specs.declared.reader.Found.TheVariants.{End}
+use Rattle.std.specs.Prelude.{None}
 use Rattle.file_format.specs.Format.{record_at, records_from}
 use Rattle.file_format.specs.Walk.{walk, WalkHandsOutRecords}
 use Rattle.file_format.proofs.Reading.{at_end, at_record, after_record, after_end}
 
 -- at the end a walk stays
-ended : (file : List ℕ) (q steps : ℕ) → length file < q + 14 → walk file q steps ≡ replicate steps End
+ended : (file : List ℕ) (q steps : ℕ) → length file < q + 14 → walk file q steps ≡ replicate steps None
 unfolding walk
 ended file q zero h = refl
 ended file q (suc t) h =

@@ -16,17 +16,10 @@ pub struct RecordReader<'a> {
     pub at: usize,
 }
 
-// What a reader finds: a record, or no fourteen bytes any more.
-#[derive(Clone, Copy)]
-pub enum Found {
-    Record(FileRecord),
-    End,
-}
-
-// A step of a walk: what the reader found at its place, and the place one record on.
+// A step of a walk: the record that the reader found at its place, if fourteen bytes are left, and the place one record on.
 #[derive(Clone, Copy)]
 pub struct Step {
-    pub found: Found,
+    pub found: Option<FileRecord>,
     pub after: usize,
 }
 
@@ -38,7 +31,7 @@ pub fn new<'a>(file: &'a [u8], at: usize) -> RecordReader<'a>
 }
 
 // The record at the reader's place, or the end.
-pub fn next<'a>(r: RecordReader<'a>) -> Found
+pub fn next<'a>(r: RecordReader<'a>) -> Option<FileRecord>
     ensures { result ≡ found_at r.entry.file.now r.entry.at }
 {
     record_at(r.file, r.at)
@@ -81,13 +74,13 @@ fn record_stands(file: &[u8], at: usize) -> bool
 }
 
 // The record whose fourteen bytes begin at a place.
-pub fn record_at(file: &[u8], at: usize) -> Found
+pub fn record_at(file: &[u8], at: usize) -> Option<FileRecord>
     ensures { result ≡ found_at file.now at }
 {
     if !record_stands(file, at) {
-        return Found::End;
+        return None;
     }
-    Found::Record(standing_record(file, at))
+    Some(standing_record(file, at))
 }
 
 // The same where the fourteen bytes are known to be there.

@@ -10,7 +10,7 @@ ghost use Rattle.file_format.specs.Parsed.{Bytes, ParsesBack};
 ghost use Rattle.file_format.specs.Orders.{ShapeRefusals};
 
 use crate::places::Places;
-use refusals::{Checked, Refusal};
+use refusals::Refusal;
 
 // Whether the first four bytes do not count the bytes that follow, or no version follows.
 fn is_miscounted(file: &[u8]) -> bool
@@ -30,31 +30,31 @@ fn is_version(version: u8) -> bool
 }
 
 // The test behind the version: 15 where header, lists and records do not fill the file.
-fn check_filling(file: &[u8], places: Places) -> Checked
+fn check_filling(file: &[u8], places: Places) -> Result<(), Refusal>
     requires { PlacesOf file.now places }
     ensures { checked_number result ≡ first (filling_tests file.now) }
 {
     let at = crate::places::first_record(places);
     if file.len() < at {
-        return Checked::Failed(Refusal::FileShape);
+        return Err(Refusal::FileShape);
     }
     let records = crate::integers::four_bytes(file, places.count) as usize;
     if at + 14 * records != file.len() {
-        return Checked::Failed(Refusal::FileShape);
+        return Err(Refusal::FileShape);
     }
-    Checked::Sound
+    Ok(())
 }
 
 // 15 for the count, 16 for the version, then the rest.
-pub fn check_shape(file: &[u8], places: Places) -> Checked
+pub fn check_shape(file: &[u8], places: Places) -> Result<(), Refusal>
     requires { PlacesOf file.now places }
     ensures { checked_number result ≡ first (shape_tests file.now) }
 {
     if is_miscounted(file) {
-        return Checked::Failed(Refusal::FileShape);
+        return Err(Refusal::FileShape);
     }
     if !is_version(file[crate::places::VERSION]) {
-        return Checked::Failed(Refusal::FileVersion);
+        return Err(Refusal::FileVersion);
     }
     check_filling(file, places)
 }

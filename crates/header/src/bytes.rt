@@ -9,7 +9,7 @@ ghost use Rattle.header.specs.Cells.{cell_header};
 
 use cell::operations::UnitCell;
 use cell::places;
-use refusals::{Checked, Refusal};
+use refusals::Refusal;
 
 // How many numbers the volume has, where the lengths are any numbers of two bytes: they may be those of a header that is refused.
 pub fn volume_length(cell: UnitCell) -> u64
@@ -47,23 +47,23 @@ fn all_products(f1: &[u8], f2: &[u8], f3: &[u8], cell: UnitCell) -> bool
 }
 
 // 3, 4, 5, each over the three axes, then 9.
-pub fn check_header(cell: UnitCell, f1: &[u8], f2: &[u8], f3: &[u8]) -> Checked
+pub fn check_header(cell: UnitCell, f1: &[u8], f2: &[u8], f3: &[u8]) -> Result<(), Refusal>
     requires { cell.group < 5 }
     ensures { checked_number result
         ≡ first (axis_tests (cell_header cell f1.now f2.now f3.now)) }
 {
     if !all_admitted(cell) {
-        return Checked::Failed(Refusal::Length);
+        return Err(Refusal::Length);
     }
     if !all_factors(f1, f2, f3) {
-        return Checked::Failed(Refusal::Factor);
+        return Err(Refusal::Factor);
     }
     if !all_products(f1, f2, f3, cell) {
-        return Checked::Failed(Refusal::Product);
+        return Err(Refusal::Product);
     }
     let needed = volume_length(cell);
     if 16777216 < needed {
-        return Checked::Failed(Refusal::VolumeTooLarge);
+        return Err(Refusal::VolumeTooLarge);
     }
-    Checked::Sound
+    Ok(())
 }

@@ -9,20 +9,20 @@ use Rattle.refusals.specs.declared.Refusal.{Refusal}
 use Rattle.refusals.specs.Refusals.{number_of, first, accepted}
 use Rattle.refusals.proofs.Tests.{fails}
 use Rattle.job.specs.declared.Job.{Job}
-use Rattle.job.specs.declared.OpenAnswer.TheVariants.{Opened, Refused}
+use Rattle.std.specs.Prelude.{Ok, Err}
 use Rattle.job.specs.Job.{Header, job_of, collecting, map_held, open_tests, open_step, OpenOutcome, opened, not_opened}
 use Rattle.job.specs.Answers.{open_outcome}
 
 module _ (m : ℕ) (h : Header) (kind : ℕ) (v : List ℕ) where
-  pub open_refused : (r : Refusal) → number_of r ≡ first (open_tests m h kind v) → open_outcome (Refused r) v ≡ open_step m h kind v
+  pub open_refused : (r : Refusal) → number_of r ≡ first (open_tests m h kind v) → open_outcome (Err r) v ≡ open_step m h kind v
   unfolding open_step
   open_refused r e = fails r _ _ (λ n. record { answer = not_opened n 0; volume = v }) e
 
-  pub open_collects : (j : Job) (v' : List ℕ) → 0 ≡ first (open_tests m h kind v) → kind ≡ 0 → j ≡ job_of m h collecting → v' ≡ replicate (length v) 0 → open_outcome (Opened j) v' ≡ open_step m h kind v
+  pub open_collects : (j : Job) (v' : List ℕ) → 0 ≡ first (open_tests m h kind v) → kind ≡ 0 → j ≡ job_of m h collecting → v' ≡ replicate (length v) 0 → open_outcome (Ok j) v' ≡ open_step m h kind v
   unfolding open_step
   open_collects j v' e k s z = rw (← e, s, z, eq-eqb kind 0 k)
 
-  pub open_map : (j : Job) → 0 ≡ first (open_tests m h kind v) → (kind ≡ 0 → ⊥) → j ≡ job_of m h map_held → open_outcome (Opened j) v ≡ open_step m h kind v
+  pub open_map : (j : Job) → 0 ≡ first (open_tests m h kind v) → (kind ≡ 0 → ⊥) → j ≡ job_of m h map_held → open_outcome (Ok j) v ≡ open_step m h kind v
   unfolding open_step
   open_map j e k s = rw (← e, s, ne_eqb kind 0 k)
 

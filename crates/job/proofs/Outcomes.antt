@@ -9,7 +9,7 @@ use Rattle.refusals.specs.Refusals.{number_of, first, accepted}
 use Rattle.lengths.specs.Lengths.{cleared}
 use Rattle.refusals.proofs.Tests.{fails}
 use Rattle.job.specs.declared.Job.{Job}
-use Rattle.job.specs.declared.Answer.TheVariants.{Done, Refused}
+use Rattle.std.specs.Prelude.{Ok, Err}
 use Rattle.job.specs.Job.{done, refused, Worked, with_state, factors_held, map_held, synthesised, synthesis_step, analysed, analysis_step, unchanged}
 use Rattle.job.specs.TestSteps.{synthesis_tests, analysis_tests}
 use Rattle.job.specs.Answers.{worked}
@@ -28,21 +28,21 @@ module _ (j : Job) (v scratch : List ℕ) where
   unfolding analysis_step
   analysis_accepted a = accepted_done (first (analysis_tests j v (length scratch))) _ (λ n. record { outcome = unchanged j v n; scratch = scratch }) (λ n. refl) a
 
-  pub synthesis_refused : (r : Refusal) → number_of r ≡ first (synthesis_tests j v (length scratch)) → worked (record { answer = Refused r; job = j }) v scratch ≡ synthesis_step j v scratch
+  pub synthesis_refused : (r : Refusal) → number_of r ≡ first (synthesis_tests j v (length scratch)) → worked j (Err r) v scratch ≡ synthesis_step j v scratch
   unfolding synthesis_step
   synthesis_refused r e = fails r _ _ (λ n. record { outcome = unchanged j v n; scratch = scratch }) e
 
   pub synthesis_done : (v' scratch' : List ℕ) → 0 ≡ first (synthesis_tests j v (length scratch)) → v' ≡ synthesised j v → scratch' ≡ cleared scratch →
-      worked (record { answer = Done; job = with_state j map_held }) v' scratch' ≡ synthesis_step j v scratch
+      worked j (Ok (with_state j map_held)) v' scratch' ≡ synthesis_step j v scratch
   unfolding synthesis_step
   synthesis_done v' scratch' e l s = rw (← e, l, s)
 
-  pub analysis_refused : (r : Refusal) → number_of r ≡ first (analysis_tests j v (length scratch)) → worked (record { answer = Refused r; job = j }) v scratch ≡ analysis_step j v scratch
+  pub analysis_refused : (r : Refusal) → number_of r ≡ first (analysis_tests j v (length scratch)) → worked j (Err r) v scratch ≡ analysis_step j v scratch
   unfolding analysis_step
   analysis_refused r e = fails r _ _ (λ n. record { outcome = unchanged j v n; scratch = scratch }) e
 
   pub analysis_done : (v' scratch' : List ℕ) → 0 ≡ first (analysis_tests j v (length scratch)) → v' ≡ analysed j v → scratch' ≡ cleared scratch →
-      worked (record { answer = Done; job = with_state j factors_held }) v' scratch' ≡ analysis_step j v scratch
+      worked j (Ok (with_state j factors_held)) v' scratch' ≡ analysis_step j v scratch
   unfolding analysis_step
   analysis_done v' scratch' e l s = rw (← e, l, s)
 

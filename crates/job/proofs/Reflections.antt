@@ -12,7 +12,7 @@ use Rattle.cell.specs.Consistency.{record_on}
 use Rattle.job.proofs.check.record.Reflections.{pair_of_numbers}
 use Rattle.job.specs.declared.Job.{Job}
 use Rattle.job.specs.declared.Reflection.{Reflection}
-use Rattle.job.specs.declared.Answer.TheVariants.{Done, Refused}
+use Rattle.std.specs.Prelude.{Ok, Err}
 use Rattle.job.specs.Job.{group_in, halves, index, factor_step, record_tests, record_step, unchanged, factor, refused, Outcome}
 use Rattle.job.specs.TestSteps.{factor_tests}
 use Rattle.job.specs.Answers.{outcome}
@@ -27,10 +27,10 @@ module _ (j : Job) (at : Reflection) (v : List ℕ) where
   factor_read x e s = ap (λ (z : Pair). factor z.re z.im) s ∙ ap (λ (o : Outcome). o.answer) (passes _ _ (unchanged j v) e)
 
   module _ (x y : ℕ) where
-    pub record_refused : (r : Refusal) → number_of r ≡ first (record_tests j (index at) x y v) → outcome (record { answer = Refused r; job = j }) v ≡ record_step j at x y v
+    pub record_refused : (r : Refusal) → number_of r ≡ first (record_tests j (index at) x y v) → outcome j (Err r) v ≡ record_step j at x y v
     unfolding record_step
     record_refused r e = fails r _ _ (unchanged j v) e
 
-    pub record_written : (v' : List ℕ) → 0 ≡ first (record_tests j (index at) x y v) → v' ≡ record_on (group_in j) (halves j) j.modulus (index at) (value_of j.modulus (record { re = x; im = y })) v → outcome (record { answer = Done; job = j }) v' ≡ record_step j at x y v
+    pub record_written : (v' : List ℕ) → 0 ≡ first (record_tests j (index at) x y v) → v' ≡ record_on (group_in j) (halves j) j.modulus (index at) (value_of j.modulus (record { re = x; im = y })) v → outcome j (Ok j) v' ≡ record_step j at x y v
     unfolding record_step
-    record_written v' e s = ap (λ (w : List ℕ). outcome (record { answer = Done; job = j }) w) (s ∙ ap (λ z. record_on (group_in j) (halves j) j.modulus (index at) z v) (pair_of_numbers j.modulus x y)) ∙ passes _ _ (unchanged j v) e
+    record_written v' e s = ap (λ (w : List ℕ). outcome j (Ok j) w) (s ∙ ap (λ z. record_on (group_in j) (halves j) j.modulus (index at) z v) (pair_of_numbers j.modulus x y)) ∙ passes _ _ (unchanged j v) e

@@ -7,7 +7,7 @@ use native.Mathlib.Omega.{arith}
 use lib.ListN.{length}
 use borrow.Author.Tests.{eq-eqb, le-ltb, not-true, not-false}
 use Rattle.refusals.specs.declared.Refusal.{Refusal}
-use Rattle.refusals.specs.declared.Checked.TheVariants.{Sound, Failed}
+use Rattle.std.specs.Prelude.{Ok, Err}
 use Rattle.refusals.specs.Refusals.{number_of, first}
 use Rattle.refusals.proofs.Tests.{fails, pass, none, not_t}
 use Rattle.algebra.proofs.ring.Laws.{along}
@@ -74,11 +74,11 @@ made_as r a b t e = e ∙ ap (λ r. cond r a b) t
 -- ---- what it answers and leaves
 
 module _ (j : Job) (n : ℕ) (v s : List ℕ) where
-  pub turn_refused : (r : Refusal) {v' s' : List ℕ} → number_of r ≡ first (turn_tests j n v (length s)) → v' ≡ v → s' ≡ s → turn_outcome (Failed r) v' s' ≡ turn_step j n v s
+  pub turn_refused : (r : Refusal) {v' s' : List ℕ} → number_of r ≡ first (turn_tests j n v (length s)) → v' ≡ v → s' ≡ s → turn_outcome (Err r) v' s' ≡ turn_step j n v s
   unfolding turn_step
-  turn_refused r e ev es = (λ i. turn_outcome (Failed r) (ev i) (es i)) ∙ fails r _ _ (λ k. record { answer = k; volume = v; scratch = s }) e
+  turn_refused r e ev es = (λ i. turn_outcome (Err r) (ev i) (es i)) ∙ fails r _ _ (λ k. record { answer = k; volume = v; scratch = s }) e
 
-  pub turn_done : {v' s' : List ℕ} → 0 ≡ first (turn_tests j n v (length s)) → v' ≡ line_synthesised j n v → s' ≡ cleared s → turn_outcome Sound v' s' ≡ turn_step j n v s
+  pub turn_done : {v' s' : List ℕ} → 0 ≡ first (turn_tests j n v (length s)) → v' ≡ line_synthesised j n v → s' ≡ cleared s → turn_outcome (Ok tt) v' s' ≡ turn_step j n v s
   unfolding turn_step
   turn_done e ev es = rw (← e, ev, es)
 

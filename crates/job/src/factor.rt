@@ -3,13 +3,14 @@ ghost use Rattle.std.specs.Prelude.{◌≡◌};
 ghost use Rattle.job.specs.Job.{factor_step};
 ghost use Rattle.job.specs.Answers.{said_factor};
 
-use crate::{FactorAnswer, Job, Reflection, valid};
+use crate::{Job, Reflection, valid};
 use cell::operations::Index;
-use refusals::Checked;
+use numbers::Pair;
+use refusals::Refusal;
 
 impl Job {
     // The factor at an index anywhere in the cell.
-    pub fn factor(self, at: Reflection, volume: &[u32]) -> FactorAnswer
+    pub fn factor(self, at: Reflection, volume: &[u32]) -> Result<Pair, Refusal>
         ensures { said_factor result ≡ (factor_step self at volume.now).answer }
     {
         let cell = self.unit_cell();
@@ -18,20 +19,14 @@ impl Job {
             k: at.1,
             l: at.2,
         };
-        let checked = crate::check::factor::check_factor(
+        crate::check::factor::check_factor(
             valid::valid_job(self),
             self.state,
             self.modulus,
             cell,
             j,
             volume,
-        );
-        match checked {
-            Checked::Failed(refusal) => FactorAnswer::Refused(refusal),
-            Checked::Sound => {
-                let x = volume::read::factor_at(self.modulus, cell, j, volume);
-                FactorAnswer::Factor(x.re, x.im)
-            }
-        }
+        )?;
+        Ok(volume::read::factor_at(self.modulus, cell, j, volume))
     }
 }

@@ -3,26 +3,23 @@ ghost use Rattle.std.specs.Prelude.{◌≡◌};
 ghost use Rattle.job.specs.Job.{factor_power_step};
 ghost use Rattle.job.specs.Answers.{said_power};
 
-use crate::{Job, PowerAnswer, valid};
-use refusals::Checked;
+use crate::{Job, valid};
+use refusals::Refusal;
 
 impl Job {
     // It is checked as a synthesis that has scratch enough: it needs none.
-    pub fn factor_power(self, volume: &[u32]) -> PowerAnswer
+    pub fn factor_power(self, volume: &[u32]) -> Result<u32, Refusal>
         ensures { said_power result ≡ (factor_power_step self volume.now).answer }
     {
         let cell = self.unit_cell();
-        let checked = crate::check::synthesis::check_synthesis(
+        crate::check::synthesis::check_synthesis(
             valid::valid_job(self),
             self.state,
             self.modulus,
             cell,
             volume,
             11520,
-        );
-        match checked {
-            Checked::Failed(refusal) => PowerAnswer::Refused(refusal),
-            Checked::Sound => PowerAnswer::Power(power::factor_power(self.modulus, cell, volume)),
-        }
+        )?;
+        Ok(power::factor_power(self.modulus, cell, volume))
     }
 }

@@ -1,7 +1,9 @@
 // A job collects structure factors in a volume that the caller lends, or holds the map that they stand for.
 //
 // The job is handed in and handed back by value at each call, beside the volume that the caller lends. Each call is a check, which
-// answers the first refusal of the paper's order, and then the work. What a caller holds or hands in by value has the layout of C, so that
+// answers the first refusal of the paper's order, and then the work. The answer is a `Result`: the refusal, after which the job is as it was
+// handed in, or what the call gives. An opening, a record, a synthesis and an analysis give the job as it is from then on; a point of the map
+// the density there, the signed whole number next to zero; an index its factor; a power a residue. What a caller holds or hands in by value has the layout of C, so that
 // crate exported can pass it on.
 #![tactic(auto)]
 
@@ -22,8 +24,6 @@ mod plan; // plan.rt: a job's numbers as the lines of its volume take them
 
 ghost use Rattle.job.specs.PowerKept.{PowerKept};
 ghost use Rattle.job.specs.Turns.{TurnsSynthesise};
-
-use refusals::Refusal;
 
 // The index of a structure factor, in reciprocal space: h, k, l.
 #[repr(C)]
@@ -53,46 +53,6 @@ pub struct Job {
     pub b: Axis,
     pub c: Axis,
     pub state: u32,
-}
-
-// The answer of record, synthesis and analysis, beside the job.
-#[derive(Clone, Copy)]
-pub enum Answer {
-    Done,
-    Refused(Refusal),
-}
-
-#[derive(Clone, Copy)]
-pub struct Answered {
-    pub answer: Answer,
-    pub job: Job,
-}
-
-// The answer of an opening.
-#[derive(Clone, Copy)]
-pub enum OpenAnswer {
-    Opened(Job),
-    Refused(Refusal),
-}
-
-// The answers of the two readings: a density is the signed whole number next to zero, a factor two residues.
-#[derive(Clone, Copy)]
-pub enum PointAnswer {
-    Density(i32),
-    Refused(Refusal),
-}
-
-#[derive(Clone, Copy)]
-pub enum FactorAnswer {
-    Factor(u32, u32),
-    Refused(Refusal),
-}
-
-// The answer of both powers: a residue.
-#[derive(Clone, Copy)]
-pub enum PowerAnswer {
-    Power(u32),
-    Refused(Refusal),
 }
 
 // Power is kept by every accepted synthesis and by every accepted analysis.

@@ -3,26 +3,23 @@ ghost use Rattle.std.specs.Prelude.{◌≡◌};
 ghost use Rattle.job.specs.Job.{map_power_step};
 ghost use Rattle.job.specs.Answers.{said_power};
 
-use crate::{Job, PowerAnswer, valid};
-use refusals::Checked;
+use crate::{Job, valid};
+use refusals::Refusal;
 
 impl Job {
     // It is checked as an analysis that has scratch enough: it needs none.
-    pub fn map_power(self, volume: &[u32]) -> PowerAnswer
+    pub fn map_power(self, volume: &[u32]) -> Result<u32, Refusal>
         ensures { said_power result ≡ (map_power_step self volume.now).answer }
     {
         let cell = self.unit_cell();
-        let checked = crate::check::analysis::check_analysis(
+        crate::check::analysis::check_analysis(
             valid::valid_job(self),
             self.state,
             self.modulus,
             cell,
             volume,
             11520,
-        );
-        match checked {
-            Checked::Failed(refusal) => PowerAnswer::Refused(refusal),
-            Checked::Sound => PowerAnswer::Power(power::map_power(self.modulus, cell, volume)),
-        }
+        )?;
+        Ok(power::map_power(self.modulus, cell, volume))
     }
 }

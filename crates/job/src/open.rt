@@ -5,9 +5,9 @@ ghost use Rattle.refusals.specs.Refusals.{first};
 ghost use Rattle.job.specs.Job.{cell_header, axis_tests, job_of, open_step};
 ghost use Rattle.job.specs.Answers.{open_outcome};
 
-use crate::{Axis, Job, OpenAnswer};
+use crate::{Axis, Job};
 use cell::operations::UnitCell;
-use refusals::Checked;
+use refusals::Refusal;
 
 // An axis of a job: the list goes on as octal digits.
 fn axis(length: u32, factors: &[u8]) -> Axis
@@ -48,7 +48,7 @@ pub fn open(
     f2: &[u8],
     f3: &[u8],
     volume: &mut [u32],
-) -> OpenAnswer
+) -> Result<Job, Refusal>
     ensures { open_outcome result volume.new
         ≡ open_step modulus
         (record {
@@ -61,16 +61,11 @@ pub fn open(
         volume.old }
 {
     let cell = UnitCell { group, n1, n2, n3 };
-    let checked = crate::check::open::check_open(modulus, cell, kind, f1, f2, f3, &volume[..]);
-    match checked {
-        Checked::Failed(refusal) => OpenAnswer::Refused(refusal),
-        Checked::Sound => {
-            if kind == 0 {
-                slices::buffers::zero(volume);
-                OpenAnswer::Opened(opened(modulus, cell, f1, f2, f3, 0))
-            } else {
-                OpenAnswer::Opened(opened(modulus, cell, f1, f2, f3, 2))
-            }
-        }
+    crate::check::open::check_open(modulus, cell, kind, f1, f2, f3, &volume[..])?;
+    if kind == 0 {
+        slices::buffers::zero(volume);
+        Ok(opened(modulus, cell, f1, f2, f3, 0))
+    } else {
+        Ok(opened(modulus, cell, f1, f2, f3, 2))
     }
 }

@@ -3,14 +3,14 @@ ghost use Rattle.std.specs.Prelude.{◌≡◌};
 ghost use Rattle.job.specs.Job.{point_step};
 ghost use Rattle.job.specs.Answers.{said_point};
 
-use crate::{GridPoint, Job, PointAnswer, valid};
+use crate::{GridPoint, Job, valid};
 use cell::operations::Point;
 use cell::places;
-use refusals::Checked;
+use refusals::Refusal;
 
 impl Job {
     // The density at a point anywhere in the cell, with its sign.
-    pub fn point(self, at: GridPoint, volume: &[u32]) -> PointAnswer
+    pub fn point(self, at: GridPoint, volume: &[u32]) -> Result<i32, Refusal>
         ensures { said_point result ≡ (point_step self at volume.now).answer }
     {
         let cell = self.unit_cell();
@@ -19,20 +19,15 @@ impl Job {
             y: at.1,
             z: at.2,
         };
-        let checked = crate::check::point::check_point(
+        crate::check::point::check_point(
             valid::valid_job(self),
             self.state,
             self.modulus,
             cell,
             point,
             volume,
-        );
-        match checked {
-            Checked::Failed(refusal) => PointAnswer::Refused(refusal),
-            Checked::Sound => {
-                let place = places::density_place(cell, point);
-                PointAnswer::Density(signed::centre(numbers::modulus(self.modulus), volume[place]))
-            }
-        }
+        )?;
+        let place = places::density_place(cell, point);
+        Ok(signed::centre(numbers::modulus(self.modulus), volume[place]))
     }
 }

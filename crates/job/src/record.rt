@@ -3,15 +3,15 @@ ghost use Rattle.std.specs.Prelude.{◌≡◌};
 ghost use Rattle.job.specs.Job.{record_step};
 ghost use Rattle.job.specs.Answers.{outcome};
 
-use crate::{Answer, Answered, Job, Reflection, valid};
+use crate::{Job, Reflection, valid};
 use cell::operations::Index;
 use numbers::Pair;
-use refusals::Checked;
+use refusals::Refusal;
 
 impl Job {
     // The value a + b i goes to its index, and what it implies to the images that are stored.
-    pub fn record(mut self, at: Reflection, a: u32, b: u32, volume: &mut [u32]) -> Answered
-        ensures { outcome result volume.new ≡ record_step self at a b volume.old }
+    pub fn record(self, at: Reflection, a: u32, b: u32, volume: &mut [u32]) -> Result<Job, Refusal>
+        ensures { outcome self result volume.new ≡ record_step self at a b volume.old }
     {
         let cell = self.unit_cell();
         let j = Index {
@@ -20,7 +20,7 @@ impl Job {
             l: at.2,
         };
         let x = Pair { re: a, im: b };
-        let checked = crate::check::record::check_record(
+        crate::check::record::check_record(
             valid::valid_job(self),
             self.state,
             self.modulus,
@@ -28,19 +28,8 @@ impl Job {
             j,
             x,
             &volume[..],
-        );
-        match checked {
-            Checked::Failed(refusal) => Answered {
-                answer: Answer::Refused(refusal),
-                job: self,
-            },
-            Checked::Sound => {
-                volume::record::write_images(self.modulus, cell, j, x, volume);
-                Answered {
-                    answer: Answer::Done,
-                    job: self,
-                }
-            }
-        }
+        )?;
+        volume::record::write_images(self.modulus, cell, j, x, volume);
+        Ok(self)
     }
 }

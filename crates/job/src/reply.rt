@@ -5,7 +5,8 @@ ghost use Rattle.refusals.specs.Refusals.{number_of};
 ghost use Rattle.job.specs.Job.{refused};
 ghost use Rattle.job.specs.Answers.{said, said_point, said_factor, said_power, reply_of};
 
-use crate::{Answer, FactorAnswer, PointAnswer, PowerAnswer};
+use crate::Job;
+use numbers::Pair;
 use refusals::Refusal;
 
 #[derive(Clone, Copy)]
@@ -15,55 +16,55 @@ pub struct Reply {
     pub y: i64,
 }
 
-pub fn of_answer(answer: Answer) -> Reply
+pub fn of_answer(answer: Result<Job, Refusal>) -> Reply
     ensures { result ≡ reply_of (said answer) }
 {
     match answer {
-        Answer::Done => Reply {
+        Ok(_) => Reply {
             number: 0,
             x: 0,
             y: 0,
         },
-        Answer::Refused(refusal) => of_refusal(refusal),
+        Err(refusal) => of_refusal(refusal),
     }
 }
 
-pub fn of_point(answer: PointAnswer) -> Reply
+pub fn of_point(answer: Result<i32, Refusal>) -> Reply
     ensures { result ≡ reply_of (said_point answer) }
 {
     match answer {
-        PointAnswer::Density(x) => Reply {
+        Ok(x) => Reply {
             number: 0,
             x: x as i64,
             y: 0,
         },
-        PointAnswer::Refused(refusal) => of_refusal(refusal),
+        Err(refusal) => of_refusal(refusal),
     }
 }
 
-pub fn of_factor(answer: FactorAnswer) -> Reply
+pub fn of_factor(answer: Result<Pair, Refusal>) -> Reply
     ensures { result ≡ reply_of (said_factor answer) }
 {
     match answer {
-        FactorAnswer::Factor(x, y) => Reply {
+        Ok(x) => Reply {
             number: 0,
-            x: x as i64,
-            y: y as i64,
+            x: x.re as i64,
+            y: x.im as i64,
         },
-        FactorAnswer::Refused(refusal) => of_refusal(refusal),
+        Err(refusal) => of_refusal(refusal),
     }
 }
 
-pub fn of_power(answer: PowerAnswer) -> Reply
+pub fn of_power(answer: Result<u32, Refusal>) -> Reply
     ensures { result ≡ reply_of (said_power answer) }
 {
     match answer {
-        PowerAnswer::Power(x) => Reply {
+        Ok(x) => Reply {
             number: 0,
             x: x as i64,
             y: 0,
         },
-        PowerAnswer::Refused(refusal) => of_refusal(refusal),
+        Err(refusal) => of_refusal(refusal),
     }
 }
 

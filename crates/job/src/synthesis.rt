@@ -3,37 +3,26 @@ ghost use Rattle.std.specs.Prelude.{◌≡◌};
 ghost use Rattle.job.specs.Job.{synthesis_step};
 ghost use Rattle.job.specs.Answers.{worked};
 
-use crate::{Answer, Answered, Job, plan, valid};
-use refusals::Checked;
+use crate::{Job, plan, valid};
+use refusals::Refusal;
 
 impl Job {
     // The factors that the volume holds become the map that they stand for; a refused call changes nothing.
-    pub fn synthesis(mut self, volume: &mut [u32], scratch: &mut [u32]) -> Answered
-        ensures { worked result volume.new scratch.new
+    pub fn synthesis(mut self, volume: &mut [u32], scratch: &mut [u32]) -> Result<Job, Refusal>
+        ensures { worked self result volume.new scratch.new
             ≡ synthesis_step self volume.old scratch.old }
     {
         let cell = self.unit_cell();
-        let checked = crate::check::synthesis::check_synthesis(
+        crate::check::synthesis::check_synthesis(
             valid::valid_job(self),
             self.state,
             self.modulus,
             cell,
             &volume[..],
             scratch.len(),
-        );
-        match checked {
-            Checked::Failed(refusal) => Answered {
-                answer: Answer::Refused(refusal),
-                job: self,
-            },
-            Checked::Sound => {
-                volume_transform::transform_volume(plan::plan_of(self, 0), volume, scratch);
-                self.state = 2;
-                Answered {
-                    answer: Answer::Done,
-                    job: self,
-                }
-            }
-        }
+        )?;
+        volume_transform::transform_volume(plan::plan_of(self, 0), volume, scratch);
+        self.state = 2;
+        Ok(self)
     }
 }

@@ -6,7 +6,7 @@ ghost use Rattle.job.specs.Answers.{turn_outcome};
 
 use crate::check::tests;
 use crate::{Job, plan};
-use refusals::{Checked, Refusal};
+use refusals::Refusal;
 
 impl Job {
     // How many lines the job has, along the three axes.
@@ -19,23 +19,23 @@ impl Job {
     }
 
     // Line n is transformed in its place; a refused turn changes nothing. Only the numbers of that line are looked at.
-    pub fn turn(self, n: usize, volume: &mut [u32], scratch: &mut [u32]) -> Checked
+    pub fn turn(self, n: usize, volume: &mut [u32], scratch: &mut [u32]) -> Result<(), Refusal>
         requires { (valid_job self ≡ true) × (n < lines_of self) }
         ensures { turn_outcome result volume.new scratch.new
             ≡ turn_step self n volume.old scratch.old }
     {
         if !tests::fits(self.unit_cell(), &volume[..]) {
-            return Checked::Failed(Refusal::BufferLength);
+            return Err(Refusal::BufferLength);
         }
         if scratch.len() < 11520 {
-            return Checked::Failed(Refusal::ScratchTooShort);
+            return Err(Refusal::ScratchTooShort);
         }
         let plan = plan::plan_of(self, 0);
         let counts = volume_transform::axis_lines::line_counts(plan);
         let line = volume_transform::numbering::line_in_turn(plan, counts, n);
         if !volume_transform::one_line::turn_alone(line, volume, scratch) {
-            return Checked::Failed(Refusal::NotResidue);
+            return Err(Refusal::NotResidue);
         }
-        Checked::Sound
+        Ok(())
     }
 }

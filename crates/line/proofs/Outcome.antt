@@ -5,19 +5,19 @@ use Prim.Native.Nat.{ℕ, zero, suc}
 use lib.ListN.{length}
 use Rattle.line.specs.Line.{transformed, line_tests, LineOutcome, line_step}
 use Rattle.refusals.specs.declared.Refusal.{Refusal}
-use Rattle.line.specs.declared.LineAnswer.TheVariants.{Transformed, Refused}
+use Rattle.std.specs.Prelude.{Ok, Err}
 use Rattle.refusals.specs.Refusals.{number_of, first, accepted}
 use Rattle.lengths.specs.Lengths.{cleared}
 use Rattle.line.specs.Answers.{line_outcome}
 use Rattle.refusals.proofs.Tests.{fails}
 
 pub refused_outcome : (m kind direction N : ℕ) (factors line scratch : List ℕ) (r : Refusal) → number_of r ≡ first (line_tests m kind direction N factors line (length scratch)) →
-    line_outcome (Refused r) line scratch ≡ line_step m kind direction N factors line scratch
+    line_outcome (Err r) line scratch ≡ line_step m kind direction N factors line scratch
 unfolding line_step
 refused_outcome m kind direction N factors line scratch r e = fails r _ _ (λ n. record { answer = n; line = line; scratch = scratch }) e
 
 pub transformed_outcome : (m kind direction N : ℕ) (factors line scratch line' scratch' : List ℕ) → 0 ≡ first (line_tests m kind direction N factors line (length scratch)) →
-    line' ≡ transformed m kind direction N line → scratch' ≡ cleared scratch → line_outcome Transformed line' scratch' ≡ line_step m kind direction N factors line scratch
+    line' ≡ transformed m kind direction N line → scratch' ≡ cleared scratch → line_outcome (Ok tt) line' scratch' ≡ line_step m kind direction N factors line scratch
 unfolding line_step
 transformed_outcome m kind direction N factors line scratch line' scratch' e l s = rw (← e, l, s)
 

@@ -1,23 +1,17 @@
 -- What the call of a line returned and left, in the words of its promise; and what is known of a line whose every test
 -- was passed.
-use Rattle.std.specs.Prelude.{List, ℕ, ◌*◌, ◌≤◌, ◌<◌, length, ◌≡◌}
+use Rattle.std.specs.Prelude.{List, ℕ, ◌*◌, ◌≤◌, ◌<◌, length, ◌≡◌, Result}
 use Rattle.numbers.specs.Value.{prime, IsModulus}
 use Rattle.slices.specs.Pairs.{Below}
 use Rattle.lengths.specs.Lengths.{scratch_length, pair_count}
-use Rattle.refusals.specs.Refusals.{number_of}
-use Rattle.line.specs.declared.LineAnswer.{LineAnswer}
-use Rattle.line.specs.declared.LineAnswer.TheVariants.{Transformed, Refused}
+use Rattle.refusals.specs.Checks.{checked_number}
+use Rattle.refusals.specs.declared.Refusal.{Refusal}
 use Rattle.lengths.specs.Admitted.{AdmittedLength, FactorList}
 use Rattle.line.specs.Line.{LineOutcome}
 
--- What the declared answer says.
-abbrev pub said_line : LineAnswer → ℕ
-said_line Transformed = 0
-said_line (Refused r) = number_of r
-
 -- what a call returned and left
-abbrev pub line_outcome : LineAnswer → (line scratch : List ℕ) → LineOutcome
-line_outcome r l s = record { answer = said_line r; line = l; scratch = s }
+abbrev pub line_outcome : Result (Unit {0}) Refusal → (line scratch : List ℕ) → LineOutcome
+line_outcome r l s = record { answer = checked_number r; line = l; scratch = s }
 
 -- ---- What is known of a line whose every test was passed: it is transformed under these facts alone.
 

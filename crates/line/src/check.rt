@@ -7,7 +7,7 @@ ghost use Rattle.refusals.specs.Checks.{checked_number};
 ghost use Rattle.line.specs.Line.{line_tests};
 ghost use Rattle.line.specs.Orders.{LineRefusals};
 
-use refusals::{Checked, Refusal};
+use refusals::Refusal;
 
 // The refusals of a line, in the paper's order. Residues are those of the modulus; the scratch counts by its length.
 pub fn check_line(
@@ -18,39 +18,39 @@ pub fn check_line(
     factors: &[u8],
     line: &[u32],
     scratch: usize,
-) -> Checked
+) -> Result<(), Refusal>
     ensures { checked_number result
         ≡ first (line_tests modulus kind direction length factors.now line.now scratch) }
 {
     if !numbers::is_modulus(modulus) {
-        return Checked::Failed(Refusal::Modulus);
+        return Err(Refusal::Modulus);
     }
     if 6 <= kind {
-        return Checked::Failed(Refusal::LineKind);
+        return Err(Refusal::LineKind);
     }
     if 2 <= direction {
-        return Checked::Failed(Refusal::Direction);
+        return Err(Refusal::Direction);
     }
     if !lengths::admitted(length) {
-        return Checked::Failed(Refusal::Length);
+        return Err(Refusal::Length);
     }
     if !lengths::factors_ok(factors) {
-        return Checked::Failed(Refusal::Factor);
+        return Err(Refusal::Factor);
     }
     if !lengths::has_product(factors, length / 2) {
-        return Checked::Failed(Refusal::Product);
+        return Err(Refusal::Product);
     }
     let pairs = lengths::pair_count(kind, length);
     if line.len() != 2 * pairs {
-        return Checked::Failed(Refusal::BufferLength);
+        return Err(Refusal::BufferLength);
     }
     if scratch < 11520 {
-        return Checked::Failed(Refusal::ScratchTooShort);
+        return Err(Refusal::ScratchTooShort);
     }
     if !slices::buffers::all_below(line, numbers::modulus(modulus)) {
-        return Checked::Failed(Refusal::NotResidue);
+        return Err(Refusal::NotResidue);
     }
-    Checked::Sound
+    Ok(())
 }
 
 // The refusals of a line stand in the papers' order, and 26 is exactly that of a modulus that is neither 1 nor 2.

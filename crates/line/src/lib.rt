@@ -15,14 +15,7 @@ ghost use Rattle.line.specs.EverySplit.{EverySplit};
 ghost use Rattle.line.specs.Demands.{RulesKept, ForwardIsSum, BackIsSum, CallIsSum, ListFree, Restored};
 ghost use Rattle.line.specs.Demands.{RestoredAfter, TakenBack};
 
-use refusals::{Checked, Refusal};
-
-// The answer of a line.
-#[derive(Clone, Copy)]
-pub enum LineAnswer {
-    Transformed,
-    Refused(Refusal),
-}
+use refusals::Refusal;
 
 // One line of structure factors, transformed in the lent line, or refused. The modulus number names the prime; direction 0 is forward, 1
 // the inverse.
@@ -34,12 +27,12 @@ pub fn line(
     factors: &[u8],
     line: &mut [u32],
     scratch: &mut [u32],
-) -> LineAnswer
+) -> Result<(), Refusal>
     ensures { line_outcome result line.new scratch.new
         ≡ line_step modulus kind direction length factors.now line.old
         scratch.old }
 {
-    let checked = crate::check::check_line(
+    crate::check::check_line(
         modulus,
         kind,
         direction,
@@ -47,23 +40,18 @@ pub fn line(
         factors,
         &line[..],
         scratch.len(),
+    )?;
+    transform_line(
+        modulus,
+        kind,
+        direction,
+        length,
+        lengths::packed(factors),
+        line,
+        scratch,
     );
-    match checked {
-        Checked::Failed(refusal) => LineAnswer::Refused(refusal),
-        Checked::Sound => {
-            transform_line(
-                modulus,
-                kind,
-                direction,
-                length,
-                lengths::packed(factors),
-                line,
-                scratch,
-            );
-            slices::buffers::clear(scratch, 11520);
-            LineAnswer::Transformed
-        }
-    }
+    slices::buffers::clear(scratch, 11520);
+    Ok(())
 }
 
 // The transform of an accepted line, in place. The tables of the direction are made once, and lent down; the folded line stands in the

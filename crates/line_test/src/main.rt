@@ -5,14 +5,14 @@
 
 ghost use Rattle.std.specs.Prelude.{◌≡◌, ◌<◌, ◌≤◌, length};
 
-use line::LineAnswer;
+use refusals::Refusal;
 use std::io;
 use std::io::{Read, Write};
 
-fn number(answer: LineAnswer) -> u32 {
+fn number(answer: Result<(), Refusal>) -> u32 {
     match answer {
-        LineAnswer::Transformed => 0,
-        LineAnswer::Refused(r) => refusals::number_of(r),
+        Ok(()) => 0,
+        Err(r) => refusals::number_of(r),
     }
 }
 

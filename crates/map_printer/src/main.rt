@@ -7,7 +7,6 @@
 ghost use Rattle.std.specs.Prelude.{◌≡◌, ◌<◌, ◌≤◌, length, take, IfOk, OnOk};
 ghost use Rattle.std.specs.Io.KnownBytes.{Appends, Consumes, IsAtEnd};
 
-use output::FillAnswer;
 use printing::printer;
 use std::io;
 use std::io::{Read, Write};
@@ -48,7 +47,7 @@ fn main(rt: HostRuntime) -> io::Result<()> {
     let count = read_full(&mut from, &mut file)?;
     let answer = printer::print_file(&file[..count], &mut text);
     match answer {
-        FillAnswer::Written(n) => print(&mut to, &text, n),
-        FillAnswer::Refused(_) => Ok(()),
+        Ok(n) => print(&mut to, &text, n),
+        Err(_) => Ok(()),
     }
 }

@@ -17,7 +17,7 @@ use Rattle.header.proofs.Headers.{sizes_of}
 use Rattle.output.specs.Output.{FillOutcome, filled, not_filled}
 use Rattle.output.specs.Written.{Wrote}
 use Rattle.output.specs.Answers.{fill_outcome}
-use Rattle.output.specs.declared.FillAnswer.TheVariants.{Written, Refused}
+use Rattle.std.specs.Prelude.{Ok, Err}
 use Rattle.output.proofs.Writing.{wrote_filled}
 use Rattle.mrc.specs.Floats.{exact_limit}
 use Rattle.mrc.specs.Parameters.{of_group}
@@ -62,10 +62,10 @@ module _ (cell : UnitCell) (v : List ℤ) (parameters : CellParameters) where
   abbrev outcome_of : List ℕ → FillOutcome
   outcome_of out = accepted (first (fill_tests cell v parameters (length out))) (filled (mrc_bytes cell v parameters) out) (not_filled out)
 
-  pub fill_refused : (r : Refusal) (out : List ℕ) → number_of r ≡ first (fill_tests cell v parameters (length out)) → fill_outcome (Refused r) out ≡ outcome_of out
+  pub fill_refused : (r : Refusal) (out : List ℕ) → number_of r ≡ first (fill_tests cell v parameters (length out)) → fill_outcome (Err r) out ≡ outcome_of out
   fill_refused r out e = fails r (first (fill_tests cell v parameters (length out))) (filled (mrc_bytes cell v parameters) out) (not_filled out) e
 
-  pub fill_written : {e : ℕ} {out out' : List ℕ} → all_exact cell v ≡ true → file_length cell ≤ length out → Wrote 0 (mrc_bytes cell v parameters) out e out' → fill_outcome (Written e) out' ≡ outcome_of out
+  pub fill_written : {e : ℕ} {out out' : List ℕ} → all_exact cell v ≡ true → file_length cell ≤ length out → Wrote 0 (mrc_bytes cell v parameters) out e out' → fill_outcome (Ok e) out' ≡ outcome_of out
   fill_written {e} {out} {out'} exact long w =
       let len = length_file cell v parameters in
       wrote_filled w (subst (λ (n : ℕ). n ≤ length out) (sym len) long)
@@ -77,7 +77,7 @@ module _ (cell : UnitCell) (v : List ℤ) (parameters : CellParameters) where
   tests_appended : (room : ℕ) → first (mrc_tests cell v parameters room) ≡ accepted (first (shape_tests cell (length v) parameters)) (first (fill_tests cell v parameters room)) (λ n. n)
   tests_appended room = first_append (shape_tests cell (length v) parameters) (fill_tests cell v parameters room) tt
 
-  pub call_refused : (r : Refusal) (out : List ℕ) → number_of r ≡ first (shape_tests cell (length v) parameters) → fill_outcome (Refused r) out ≡ mrc_step cell v parameters out
+  pub call_refused : (r : Refusal) (out : List ℕ) → number_of r ≡ first (shape_tests cell (length v) parameters) → fill_outcome (Err r) out ≡ mrc_step cell v parameters out
   unfolding mrc_step
   call_refused r out e =
       fails r (first (mrc_tests cell v parameters (length out))) (filled (mrc_bytes cell v parameters) out) (not_filled out)

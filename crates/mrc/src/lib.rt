@@ -32,8 +32,7 @@ ghost use Rattle.mrc.specs.Orders.{MrcRefusals};
 use crate::parameters::CellParameters;
 use crate::ranges::DensityRange;
 use cell::operations::UnitCell;
-use output::FillAnswer;
-use refusals::{Checked, Refusal};
+use refusals::Refusal;
 
 // The whole cell of a combined map goes to the output's first bytes, or the call is refused and changes nothing.
 pub fn mrc_map(
@@ -41,40 +40,34 @@ pub fn mrc_map(
     map: &[i64],
     parameters: CellParameters,
     out: &mut [u8],
-) -> FillAnswer
+) -> Result<usize, Refusal>
     ensures { fill_outcome result out.new
         ≡ mrc_step cell map.now parameters out.old }
 {
-    let checked = check_shape(cell, map.len(), parameters);
-    match checked {
-        Checked::Failed(refusal) => FillAnswer::Refused(refusal),
-        Checked::Sound => fill(cell, map, parameters, out),
-    }
+    check_shape(cell, map.len(), parameters)?;
+    fill(cell, map, parameters, out)
 }
 
 // 8, 3, 9, 6, 29: what needs no density.
-fn check_shape(cell: UnitCell, length: usize, parameters: CellParameters) -> Checked
+fn check_shape(cell: UnitCell, length: usize, parameters: CellParameters) -> Result<(), Refusal>
     ensures { checked_number result ≡ first (shape_tests cell length parameters) }
 {
-    let checked = combined::check_combined_map(cell, length);
-    match checked {
-        Checked::Failed(refusal) => Checked::Failed(refusal),
-        Checked::Sound => check_parameters(cell.group, parameters),
-    }
+    combined::check_combined_map(cell, length)?;
+    check_parameters(cell.group, parameters)
 }
 
-fn check_parameters(group: u32, parameters: CellParameters) -> Checked
+fn check_parameters(group: u32, parameters: CellParameters) -> Result<(), Refusal>
     ensures { checked_number result ≡ first (parameter_tests group parameters) }
 {
     if parameters::of_group(group, parameters) {
-        Checked::Sound
+        Ok(())
     } else {
-        Checked::Failed(Refusal::UnitCell)
+        Err(Refusal::UnitCell)
     }
 }
 
 // 30, 18, and the file.
-fn fill(cell: UnitCell, map: &[i64], parameters: CellParameters, out: &mut [u8]) -> FillAnswer
+fn fill(cell: UnitCell, map: &[i64], parameters: CellParameters, out: &mut [u8]) -> Result<usize, Refusal>
     requires { 0 ≡ first (shape_tests cell (length map.now) parameters) }
     ensures { fill_outcome result out.new
         ≡ accepted (first (fill_tests cell map.now parameters (length out.old)))
@@ -82,12 +75,12 @@ fn fill(cell: UnitCell, map: &[i64], parameters: CellParameters, out: &mut [u8])
 {
     let range = ranges::map_range(cell, map);
     if !ranges::is_exact(range) {
-        return FillAnswer::Refused(Refusal::FloatRange);
+        return Err(Refusal::FloatRange);
     }
     if out.len() < file_length(cell) {
-        return FillAnswer::Refused(Refusal::OutputTooShort);
+        return Err(Refusal::OutputTooShort);
     }
-    FillAnswer::Written(put_file(cell, map, parameters, range, out))
+    Ok(put_file(cell, map, parameters, range, out))
 }
 
 // The header, then the densities.

@@ -9,7 +9,7 @@ use native.Mathlib.Omega.{arith}
 use lib.ListN.{length, set, take, get_or, drop, length-append, length-take}
 use lib.Seq.{sets, sets-eq, set_out, length-sets, take-suc}
 use Rattle.algebra.proofs.ring.Laws.{along}
-use Rattle.output.specs.declared.FillAnswer.TheVariants.{Written}
+use Rattle.std.specs.Prelude.{Ok}
 use Rattle.output.specs.Output.{each, written, filled}
 use Rattle.output.specs.Written.{Wrote, Ends}
 use Rattle.output.specs.Answers.{fill_outcome}
@@ -45,7 +45,7 @@ pub wrote_whole : {e : ℕ} {s d d' : List ℕ} → Wrote 0 s d e d' → length 
 wrote_whole {e} {s} {d} h l = h.bytes ∙ sets-eq s d 0 (omega arith) ∙ along (λ (n : ℕ). s ++ drop n d) (0 + length s) (length s) (omega arith)
 
 -- so it is filled with it
-pub wrote_filled : {e : ℕ} {s d d' : List ℕ} → Wrote 0 s d e d' → length s ≤ length d → fill_outcome (Written e) d' ≡ filled s d
+pub wrote_filled : {e : ℕ} {s d d' : List ℕ} → Wrote 0 s d e d' → length s ≤ length d → fill_outcome (Ok e) d' ≡ filled s d
 wrote_filled {e} {s} w l = let n : e ≡ length s = omega (arith, w.place) in λ i. record { answer = written (n i); output = wrote_whole w l i }
 
 pub ends_as : {at : ℕ} {s t : List ℕ} → Ends at s → s ≡ t → Ends at t

@@ -10,15 +10,6 @@ ghost use Rattle.output.specs.Output.{decimal, signed_decimal, blank};
 ghost use Rattle.output.specs.Written.{Wrote, Ends};
 ghost use Rattle.output.specs.Numerals.{DecimalsReadBack};
 
-use refusals::Refusal;
-
-// The answer of a call that fills an output, or several alike: how many places it wrote, or why none.
-#[derive(Clone, Copy)]
-pub enum FillAnswer {
-    Written(usize),
-    Refused(Refusal),
-}
-
 pub fn put_byte(out: &mut [u8], at: usize, byte: u8) -> usize
     requires { Ends at (byte ∷ []) }
     ensures { Wrote at (byte ∷ []) out.old result out.new }

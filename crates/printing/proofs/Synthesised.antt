@@ -12,8 +12,10 @@ use Rattle.refusals.proofs.Tests.{passed}
 use Rattle.cell.proofs.VolumeLayout.{length_map, below_map}
 use Rattle.algebra.proofs.cells.Passing.{below_all}
 use Rattle.job.specs.declared.Job.{Job}
-use Rattle.job.specs.declared.Answered.{Answered}
-use Rattle.job.specs.Job.{valid_job, with_state, map_held, group_in, halves, done, Outcome, Worked, unchanged, synthesised, synthesis_step}
+use Rattle.std.specs.Prelude.{Ok, Err}
+use Rattle.refusals.specs.declared.Refusal.{Refusal}
+use Rattle.refusals.specs.Refusals.{number_of}
+use Rattle.job.specs.Job.{valid_job, with_state, map_held, group_in, halves, done, refused, Said, Outcome, Worked, unchanged, synthesised, synthesis_step}
 use Rattle.job.specs.TestSteps.{synthesis_tests}
 use Rattle.job.specs.Answers.{worked}
 use Rattle.job.proofs.Jobs.{valid_with}
@@ -42,8 +44,12 @@ module _ (j : Job) (v : List ℕ) (none : 0 ≡ first (synthesis_tests j v scrat
       let e : first (synthesis_tests j v (length scratch)) ≡ 0 = ap (λ n. first (synthesis_tests j v n)) scratch_length_lem ∙ sym none in
       λ i. (accepted {O = Worked} (e i) (record { outcome = record { answer = done; job = with_state j map_held; volume = synthesised j v }; scratch = cleared scratch }) (λ n. record { outcome = unchanged j v n; scratch = scratch })).outcome
 
+  -- it is not refused
+  pub not_refused : (f : Refusal) {v' s' : List ℕ} → worked j (Err f) v' s' ≡ synthesis_step j v scratch → ⊥
+  not_refused f e = let a : refused (number_of f) ≡ done = ap (λ (w : Worked). w.outcome.answer) e ∙ ap (λ (o : Outcome). o.answer) synthesis_makes in let z : ◌≡◌ {A = ℕ} 0 1 = cc in absurd (omega arith)
+
   -- what is printed of the job and the volume that it leaves
-  pub synthesised_text : (out : List ℕ) (r : Answered) {v' s' : List ℕ} → worked r v' s' ≡ synthesis_step j v scratch → text_step r.job v' out ≡ put_text (map_text (with_state j map_held) (synthesised j v)) out
-  synthesised_text out r e =
+  pub synthesised_text : (out : List ℕ) (k : Job) {v' s' : List ℕ} → worked j (Ok k) v' s' ≡ synthesis_step j v scratch → text_step k v' out ≡ put_text (map_text (with_state j map_held) (synthesised j v)) out
+  synthesised_text out k e =
       ap (λ (o : Outcome). text_step o.job o.volume out) (ap (λ (w : Worked). w.outcome) e ∙ synthesis_makes)
       ∙ text_held (with_state j map_held) (synthesised j v) out (synthesised_printable j v (not-false _ (passed (synthesis_tests j v scratch_length) tt none).0)) refl

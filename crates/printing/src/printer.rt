@@ -9,36 +9,34 @@ ghost use Rattle.printing.specs.Text.{map_text, put_text, opened_text, print_ste
 ghost use Rattle.output.specs.Answers.{fill_outcome};
 
 use crate::map_text::{refusal, text};
-use factor_file::{FileAnswer, open_file};
+use factor_file::open_file;
 use job::Job;
-use output::FillAnswer;
 use refusals::Refusal;
 
-// The map of the factors that a job holds. No test refuses its synthesis, so the answer is not asked.
-fn print_job(job: Job, volume: &mut [u32], out: &mut [u8]) -> FillAnswer
+// The map of the factors that a job holds. No test refuses its synthesis.
+fn print_job(job: Job, volume: &mut [u32], out: &mut [u8]) -> Result<usize, Refusal>
     requires { 0 ≡ first (synthesis_tests job volume.old scratch_length) }
     ensures { fill_outcome result out.new
         ≡ put_text (map_text (with_state job map_held) (synthesised job volume.old)) out.old }
 {
     let mut scratch = [0u32; 11520];
-    let answered = job.synthesis(volume, &mut scratch);
-    text::map_text(answered.job, volume, out)
+    let synthesised = job.synthesis(volume, &mut scratch)?;
+    text::map_text(synthesised, volume, out)
 }
 
 // The map of a file that is lent a volume.
-fn print_opened(file: &[u8], volume: &mut [u32], out: &mut [u8]) -> FillAnswer
+fn print_opened(file: &[u8], volume: &mut [u32], out: &mut [u8]) -> Result<usize, Refusal>
     ensures { fill_outcome result out.new
         ≡ put_text (opened_text (file_step file.now volume.old)) out.old }
 {
-    let answer = open_file::open_file(file, volume);
-    match answer {
-        FileAnswer::Refused(refusal, place) => return refusal::refusal_text(refusal, place, out),
-        FileAnswer::Opened(job) => return print_job(job, volume, out),
+    match open_file::open_file(file, volume) {
+        Ok(job) => print_job(job, volume, out),
+        Err(refused) => refusal::refusal_text(refused.refusal, refused.place, out),
     }
 }
 
 // The text of a file's map, or of its refusal, goes to the output's first bytes.
-pub fn print_file(file: &[u8], out: &mut [u8]) -> FillAnswer
+pub fn print_file(file: &[u8], out: &mut [u8]) -> Result<usize, Refusal>
     ensures { fill_outcome result out.new ≡ print_step file.now out.old }
 {
     if crate::limits::too_long(file) {

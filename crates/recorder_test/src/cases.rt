@@ -5,9 +5,10 @@ ghost use Rattle.std.specs.Prelude.{◌≡◌, ◌<◌, length, replicate, IfOk}
 ghost use Rattle.test_io.specs.Checksum.{checksum_of};
 ghost use Rattle.recorder_test.specs.Records.{numbers_of, axis_in, job_in, JobAfter};
 
-use factor_file::{FileAnswer, open_file};
+use factor_file::{FileRefusal, open_file};
 use faults::Faults;
-use job::{Axis, Job, OpenAnswer};
+use job::{Axis, Job};
+use refusals::Refusal;
 use std::io;
 use std::io::{Read, Write};
 
@@ -112,32 +113,32 @@ fn print_opening<W: Write>(to: &mut W, o: Opening, volume: &[u32]) -> io::Result
     Ok(o.kept)
 }
 
-fn of_file(answer: FileAnswer, before: Job) -> Opening {
+fn of_file(answer: Result<Job, FileRefusal>, before: Job) -> Opening {
     match answer {
-        FileAnswer::Opened(job) => Opening {
+        Ok(job) => Opening {
             number: 0,
             place: 0,
             printed: job,
             kept: job,
         },
-        FileAnswer::Refused(refusal, place) => Opening {
-            number: refusals::number_of(refusal),
-            place,
+        Err(refused) => Opening {
+            number: refusals::number_of(refused.refusal),
+            place: refused.place,
             printed: no_job(),
             kept: before,
         },
     }
 }
 
-fn of_open(answer: OpenAnswer, before: Job) -> Opening {
+fn of_open(answer: Result<Job, Refusal>, before: Job) -> Opening {
     match answer {
-        OpenAnswer::Opened(job) => Opening {
+        Ok(job) => Opening {
             number: 0,
             place: 0,
             printed: job,
             kept: job,
         },
-        OpenAnswer::Refused(refusal) => Opening {
+        Err(refusal) => Opening {
             number: refusals::number_of(refusal),
             place: 0,
             printed: before,
@@ -193,7 +194,7 @@ fn opened<R: Read, W: Write>(
 }
 
 // The three factor lists have 16 bytes each.
-fn open_listed(r: &[u32], lists: &[u8], volume: &mut [u32]) -> OpenAnswer
+fn open_listed(r: &[u32], lists: &[u8], volume: &mut [u32]) -> Result<Job, Refusal>
     requires { length lists.now ≡ 48 }
 {
     job::open::open(

@@ -1,6 +1,6 @@
 // The refusals: each has the paper's number, and a call answers the first that holds of its tests in the paper's order.
 //
-// Every call is refused in this way; what each tests is said where its check is.
+// A check and a call answer a `Result` with the refusal as its error; what each tests is said where its check is.
 #![tactic(auto)]
 
 ghost use Rattle.std.specs.Prelude.{◌≡◌};
@@ -8,7 +8,7 @@ ghost use Rattle.refusals.specs.Refusals.{number_of};
 
 // Why a call is refused: one case for each number of the paper but 11 and 17, which no call gives any more (a zero is a value like others,
 // and a file may have no records).
-#[derive(Clone, Copy)]
+#[derive(Clone, Copy, Debug, PartialEq, Eq)]
 pub enum Refusal {
     LineKind,
     Direction,
@@ -40,13 +40,6 @@ pub enum Refusal {
     Capacity,
     NothingRuns,
     Window,
-}
-
-// What a check says.
-#[derive(Clone, Copy)]
-pub enum Checked {
-    Sound,
-    Failed(Refusal),
 }
 
 // The paper's number of a refusal.

@@ -8,8 +8,9 @@
 
 mod fields; // fields.rt: a scheduler and a job by their numbers
 
-use job::{Answer, Job};
-use scheduler::{NextAnswer, Scheduler, TurnAnswer};
+use job::Job;
+use refusals::Refusal;
+use scheduler::{Progress, Scheduler};
 use std::io;
 use std::io::{Read, Write};
 
@@ -29,31 +30,34 @@ fn without_job(number: u32, lane: u32) -> Said {
     }
 }
 
-fn of_lane(answer: Answer) -> Said {
+fn of_refusal(refusal: Refusal) -> Said {
+    without_job(refusals::number_of(refusal), 0)
+}
+
+fn of_lane(answer: Result<Scheduler, Refusal>) -> Said {
     match answer {
-        Answer::Done => without_job(0, 0),
-        Answer::Refused(refusal) => without_job(refusals::number_of(refusal), 0),
+        Ok(_) => without_job(0, 0),
+        Err(refusal) => of_refusal(refusal),
     }
 }
 
-fn of_turn(answer: TurnAnswer) -> Said {
-    match answer {
-        TurnAnswer::Idle => without_job(100, 0),
-        TurnAnswer::Served(lane) => without_job(101, lane),
-        TurnAnswer::Finished(lane, job) => Said {
+fn of_turn(progress: Progress) -> Said {
+    match progress {
+        Progress::Idle => without_job(100, 0),
+        Progress::Served(lane) => without_job(101, lane),
+        Progress::Finished(lane, job) => Said {
             number: 102,
             lane,
             job,
         },
-        TurnAnswer::Refused(refusal) => without_job(refusals::number_of(refusal), 0),
     }
 }
 
-fn of_next(answer: NextAnswer) -> Said {
+fn of_next(answer: Result<Option<u32>, Refusal>) -> Said {
     match answer {
-        NextAnswer::Lane(lane) => without_job(103, lane),
-        NextAnswer::Idle => without_job(100, 0),
-        NextAnswer::Refused(refusal) => without_job(refusals::number_of(refusal), 0),
+        Ok(Some(lane)) => without_job(103, lane),
+        Ok(None) => without_job(100, 0),
+        Err(refusal) => of_refusal(refusal),
     }
 }
 
@@ -88,12 +92,11 @@ fn entered<W: Write>(
 ) -> io::Result<()> {
     let s = fields::scheduler_in(&lanes[..]);
     let job = fields::job_at(&lanes[..], 81);
-    let answered = s.enter(test_io::at(r, 1), job, volume, scratch);
-    let answer = answered.answer;
+    let answer = s.enter(test_io::at(r, 1), job, volume, scratch);
     print_said(
         to,
         of_lane(answer),
-        answered.scheduler,
+        answer.unwrap_or(s),
         lanes,
         volume,
         &scratch[..],
@@ -107,16 +110,24 @@ fn turned<W: Write>(
     scratch: &mut [u32],
 ) -> io::Result<()> {
     let s = fields::scheduler_in(&lanes[..]);
-    let answered = s.turn(volume, scratch);
-    let answer = answered.answer;
-    print_said(
-        to,
-        of_turn(answer),
-        answered.scheduler,
-        lanes,
-        &volume[..],
-        &scratch[..],
-    )
+    match s.turn(volume, scratch) {
+        Ok(turned) => print_said(
+            to,
+            of_turn(turned.progress),
+            turned.scheduler,
+            lanes,
+            &volume[..],
+            &scratch[..],
+        ),
+        Err(refusal) => print_said(
+            to,
+            of_refusal(refusal),
+            s,
+            lanes,
+            &volume[..],
+            &scratch[..],
+        ),
+    }
 }
 
 fn withdrawn<W: Write>(
@@ -127,12 +138,11 @@ fn withdrawn<W: Write>(
     scratch: &[u32],
 ) -> io::Result<()> {
     let s = fields::scheduler_in(&lanes[..]);
-    let answered = s.withdraw(test_io::at(r, 1));
-    let answer = answered.answer;
+    let answer = s.withdraw(test_io::at(r, 1));
     print_said(
         to,
         of_lane(answer),
-        answered.scheduler,
+        answer.unwrap_or(s),
         lanes,
         volume,
         scratch,

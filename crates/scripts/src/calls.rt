@@ -1,11 +1,12 @@
 // The calls of a script that transform nothing: a record, the two readings and the two powers, by their numbers, each answered as three numbers.
 ghost use Rattle.std.specs.Prelude.{◌≡◌, List, ℕ, ◌≤◌};
-ghost use Rattle.job.specs.Answers.{said, reply_of};
+ghost use Rattle.job.specs.Answers.{said, job_after, reply_of};
 ghost use Rattle.scripts.specs.Script.{call_said, call_step, call_outcome};
 
 use crate::layout::CallNumbers;
 use job::reply::Reply;
-use job::{Answered, GridPoint, Job, Reflection, reply};
+use job::{GridPoint, Job, Reflection, reply};
+use refusals::Refusal;
 
 #[derive(Clone, Copy)]
 pub struct Called {
@@ -13,14 +14,13 @@ pub struct Called {
     pub job: Job,
 }
 
-pub fn of_answered(r: Answered) -> Called
-    ensures { (result.reply ≡ reply_of (said r.answer)) × (result.job ≡ r.job) }
+// A refused call leaves the job as it was.
+pub fn of_answered(job: Job, answer: Result<Job, Refusal>) -> Called
+    ensures { (result.reply ≡ reply_of (said answer)) × (result.job ≡ job_after job answer) }
 {
-    let answer = r.answer;
-    let job = r.job;
     Called {
         reply: reply::of_answer(answer),
-        job,
+        job: answer.unwrap_or(job),
     }
 }
 
@@ -29,7 +29,7 @@ pub fn record_call(job: Job, n: CallNumbers, volume: &mut [u32]) -> Called
     ensures { (s : List ℕ) →
         call_outcome result volume.new s ≡ call_step job volume.old s (call_said s n) }
 {
-    of_answered(job.record(Reflection(n.h, n.k, n.l), n.x, n.y, volume))
+    of_answered(job, job.record(Reflection(n.h, n.k, n.l), n.x, n.y, volume))
 }
 
 // A reading or a power hands no job back: the one that was handed in goes on.

@@ -16,7 +16,7 @@ use Rattle.cell.specs.declared.operations.UnitCell.{UnitCell}
 use Rattle.cell.specs.Operations.{cell_lengths}
 use Rattle.header.proofs.Headers.{sizes_of}
 use Rattle.combined.specs.CombinedMap.{combined_map_tests}
-use Rattle.output.specs.declared.FillAnswer.TheVariants.{Written, Refused}
+use Rattle.std.specs.Prelude.{Ok, Err}
 use Rattle.output.specs.Output.{written, not_written}
 use Rattle.output.specs.Answers.{fill_outcome}
 use Rattle.output.specs.Written.{Wrote, Ends}
@@ -67,12 +67,12 @@ module _ (cell : UnitCell) (v : List ℤ) (z : ℕ) where
     fits = ltb-false _ _ (passed (section_tests cell.group (cell_lengths cell) v z room) tt none).1.1.1.1.1.1.0
 
   module _ (out : List ℕ) where
-    pub section_refused : (r : Refusal) → number_of r ≡ first (section_tests cell.group (cell_lengths cell) v z (length out)) → fill_outcome (Refused r) out ≡ section_step cell.group (cell_lengths cell) v z out
+    pub section_refused : (r : Refusal) → number_of r ≡ first (section_tests cell.group (cell_lengths cell) v z (length out)) → fill_outcome (Err r) out ≡ section_step cell.group (cell_lengths cell) v z out
     unfolding section_step
     section_refused r e = fails r _ _ (λ n. record { answer = not_written n; output = out }) e
 
     pub section_written : {n : ℕ} {out' : List ℕ} → Accepted cell.group (cell_lengths cell) v z (length out) → Wrote 0 (section_text cell.group (cell_lengths cell) v z) out n out' →
-        fill_outcome (Written n) out' ≡ section_step cell.group (cell_lengths cell) v z out
+        fill_outcome (Ok n) out' ≡ section_step cell.group (cell_lengths cell) v z out
     unfolding section_step
     section_written none w = wrote_filled w (fits (length out) none) ∙ passes _ _ (λ n. record { answer = not_written n; output = out }) none
 

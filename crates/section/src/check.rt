@@ -8,29 +8,24 @@ ghost use Rattle.section.specs.Sound.{Plane};
 ghost use Rattle.section.specs.Orders.{SectionRefusals};
 
 use cell::operations::{Point, UnitCell};
-use refusals::{Checked, Refusal};
+use refusals::Refusal;
 
 // 8, 3, 9, 6, 10, 28, 18. The plane is looked at once, and nothing is written to know how long the page is.
-pub fn check_section(cell: UnitCell, map: &[i64], z: u32, room: usize) -> Checked
+pub fn check_section(cell: UnitCell, map: &[i64], z: u32, room: usize) -> Result<(), Refusal>
     ensures { checked_number result
         ≡ first (section_tests cell.group (cell_lengths cell) map.now z room) }
 {
-    let checked = combined::check_combined_map(cell, map.len());
-    match checked {
-        Checked::Failed(refusal) => Checked::Failed(refusal),
-        Checked::Sound => {
-            if cell.n3 <= z {
-                return Checked::Failed(Refusal::Index);
-            }
-            if !plane_within(cell, map, z) {
-                return Checked::Failed(Refusal::Magnitude);
-            }
-            if room < text_length(cell) {
-                return Checked::Failed(Refusal::OutputTooShort);
-            }
-            Checked::Sound
-        }
+    combined::check_combined_map(cell, map.len())?;
+    if cell.n3 <= z {
+        return Err(Refusal::Index);
     }
+    if !plane_within(cell, map, z) {
+        return Err(Refusal::Magnitude);
+    }
+    if room < text_length(cell) {
+        return Err(Refusal::OutputTooShort);
+    }
+    Ok(())
 }
 
 // How many bytes a page has: 70 for each line.

@@ -21,8 +21,7 @@ ghost use Rattle.section.specs.SectionPlaces.{SectionPlaces};
 ghost use Rattle.section.specs.Sound.{Sound};
 
 use cell::operations::UnitCell;
-use output::FillAnswer;
-use refusals::Checked;
+use refusals::Refusal;
 
 // The page goes to the output's first bytes, or the call is refused and changes nothing.
 pub fn section_text(
@@ -33,7 +32,7 @@ pub fn section_text(
     map: &[i64],
     z: u32,
     out: &mut [u8],
-) -> FillAnswer
+) -> Result<usize, Refusal>
     ensures { fill_outcome result out.new
         ≡ section_step group (n1, n2, n3) map.now z out.old }
 {
@@ -43,11 +42,8 @@ pub fn section_text(
         n2: n2,
         n3: n3,
     };
-    let checked = crate::check::check_section(cell, map, z, out.len());
-    match checked {
-        Checked::Failed(refusal) => FillAnswer::Refused(refusal),
-        Checked::Sound => FillAnswer::Written(put_section(out, cell, map, z)),
-    }
+    crate::check::check_section(cell, map, z, out.len())?;
+    Ok(put_section(out, cell, map, z))
 }
 
 // The rows, then the three closing lines.

@@ -11,7 +11,7 @@ use Rattle.refusals.specs.declared.Refusal.{Refusal}
 use Rattle.refusals.specs.Refusals.{number_of, first}
 use Rattle.refusals.proofs.Tests.{passed, passes, fails}
 use Rattle.output.specs.Output.{Filled.written, Filled.not_written}
-use Rattle.output.specs.declared.FillAnswer.TheVariants as F
+use Rattle.std.specs.Prelude.{Ok, Err}
 use Rattle.sliding_window.specs.Window.{best_of, best_score, filled_by, window_count, Extremes, window_tests_of, windows_in, window_step}
 use Rattle.sliding_window.specs.Answers.{window_outcome}
 
@@ -48,7 +48,7 @@ module _ (run : List ℤ) (w : ℕ) (l g : List ℤ) (k m : List ℕ) where
   abbrev lent : Extremes
   lent = record { least = l; greatest = g; place_of_least = k; place_of_greatest = m }
 
-  pub refused_outcome : (r : Refusal) → number_of r ≡ first (window_tests_of run w lent) → window_outcome (F.Refused r) l g k m ≡ window_step run w lent
+  pub refused_outcome : (r : Refusal) → number_of r ≡ first (window_tests_of run w lent) → window_outcome (Err r) l g k m ≡ window_step run w lent
   unfolding window_step
   refused_outcome r e = fails r _ _ (λ n. record { answer = not_written n; outputs = lent }) e
 
@@ -56,10 +56,10 @@ module _ (run : List ℤ) (w : ℕ) (l g : List ℤ) (k m : List ℕ) where
   pub accepted_outcome : (count : ℕ) {l' g' : List ℤ} {k' m' : List ℕ} → 0 ≡ first (window_tests_of run w lent) → count ≡ window_count run w →
       (l' ≡ filled_by (λ j. best_score false run j w) count l) × (k' ≡ filled_by (λ j. best_of false run j w) count k) →
       (g' ≡ filled_by (λ j. best_score true run j w) count g) × (m' ≡ filled_by (λ j. best_of true run j w) count m) →
-      window_outcome (F.Written count) l' g' k' m' ≡ window_step run w lent
+      window_outcome (Ok count) l' g' k' m' ≡ window_step run w lent
   unfolding window_step
   accepted_outcome count e n p q =
-      (λ i. window_outcome (F.Written count) (p.0 i) (q.0 i) (p.1 i) (q.1 i))
+      (λ i. window_outcome (Ok count) (p.0 i) (q.0 i) (p.1 i) (q.1 i))
       ∙ ap (λ (c : ℕ). record {
         answer = written c;
         outputs = record {

@@ -5,7 +5,7 @@ ghost use Rattle.refusals.specs.Checks.{checked_number};
 ghost use Rattle.sliding_window.specs.Window.{window_tests};
 ghost use Rattle.sliding_window.specs.Orders.{WindowRefusals};
 
-use refusals::{Checked, Refusal};
+use refusals::Refusal;
 
 // How many windows of w entries a run has. A window of none, which the call refuses, is counted as the definition counts it.
 pub fn window_count(length: usize, w: u32) -> usize
@@ -24,29 +24,29 @@ pub fn check_window(
     greatest: usize,
     least_at: usize,
     greatest_at: usize,
-) -> Checked
+) -> Result<(), Refusal>
     ensures { checked_number result
         ≡ first (window_tests w count least greatest least_at greatest_at) }
 {
     if w == 0 {
-        return Checked::Failed(Refusal::Window);
+        return Err(Refusal::Window);
     }
     if 65 <= w {
-        return Checked::Failed(Refusal::Window);
+        return Err(Refusal::Window);
     }
     if least < count {
-        return Checked::Failed(Refusal::OutputTooShort);
+        return Err(Refusal::OutputTooShort);
     }
     if greatest < count {
-        return Checked::Failed(Refusal::OutputTooShort);
+        return Err(Refusal::OutputTooShort);
     }
     if least_at < count {
-        return Checked::Failed(Refusal::OutputTooShort);
+        return Err(Refusal::OutputTooShort);
     }
     if greatest_at < count {
-        return Checked::Failed(Refusal::OutputTooShort);
+        return Err(Refusal::OutputTooShort);
     }
-    Checked::Sound
+    Ok(())
 }
 
 // The refusals stand in the papers' order, and 34 is exactly that of a window that is not of 1 to 64 entries.

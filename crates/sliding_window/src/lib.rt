@@ -12,8 +12,7 @@ ghost use Rattle.sliding_window.specs.Window.{window_step};
 ghost use Rattle.sliding_window.specs.Answers.{window_outcome};
 ghost use Rattle.sliding_window.specs.FirstBest.{FirstBest, EachWindow};
 
-use output::FillAnswer;
-use refusals::Checked;
+use refusals::Refusal;
 
 // The least and the greatest score of each window of w entries, and the first places of both, counted in the run; the answer is how
 // many windows there are, or a refusal.
@@ -24,7 +23,7 @@ pub fn window_extremes(
     greatest: &mut [i64],
     least_at: &mut [u64],
     greatest_at: &mut [u64],
-) -> FillAnswer
+) -> Result<usize, Refusal>
     ensures { window_outcome result least.exit.now greatest.new least_at.new
         greatest_at.new
         ≡ window_step run.now w (record {
@@ -35,23 +34,18 @@ pub fn window_extremes(
         }) }
 {
     let count = crate::check::window_count(run.len(), w);
-    let checked = crate::check::check_window(
+    crate::check::check_window(
         w,
         count,
         least.len(),
         greatest.len(),
         least_at.len(),
         greatest_at.len(),
-    );
-    match checked {
-        Checked::Failed(refusal) => FillAnswer::Refused(refusal),
-        Checked::Sound => {
-            let size = w as usize;
-            crate::extremes::extremes(false, run, size, count, least, least_at);
-            crate::extremes::extremes(true, run, size, count, greatest, greatest_at);
-            FillAnswer::Written(count)
-        }
-    }
+    )?;
+    let size = w as usize;
+    crate::extremes::extremes(false, run, size, count, least, least_at);
+    crate::extremes::extremes(true, run, size, count, greatest, greatest_at);
+    Ok(count)
 }
 
 // The place of each window is the first one of its best score: in the window, beaten by no score there, and better than every earlier one.

@@ -1,11 +1,10 @@
 -- What the test programs print: lines of numbers in decimal, with a blank between each two. In ASCII 32 is the blank
 -- and 10 the line feed.
-use Rattle.std.specs.Prelude.{List, [], ◌∷◌, ◌++◌, ℕ, zero, suc, ◌%◌, ◌^◌, ℤ}
+use Rattle.std.specs.Prelude.{List, [], ◌∷◌, ◌++◌, ℕ, zero, suc, ◌%◌, ◌^◌, ℤ, Result, Ok, Err}
 use Rattle.std.specs.Fmt.{decimal, signed_decimal}
 use Rattle.std.specs.List.{join_by}
 use Rattle.refusals.specs.Refusals.{number_of}
-use Rattle.output.specs.declared.FillAnswer.{FillAnswer}
-use Rattle.output.specs.declared.FillAnswer.TheVariants.{Written, Refused}
+use Rattle.refusals.specs.declared.Refusal.{Refusal}
 use Rattle.test_io.specs.Checksum.{checksum_of}
 
 -- the text of number j of a line: a blank stands before all but the first
@@ -25,9 +24,9 @@ longer_line_of number written left = decimal number ++ 32 ∷ (decimal written +
 
 -- the refusal's number or 0 and how many places a call wrote, by the lowest 32 bits of it; then numbers that tell what
 -- it left
-abbrev pub answer_line_of : FillAnswer → List ℕ → List ℕ
-answer_line_of (Written n) left = longer_line_of 0 (n % 2 ^ 32) left
-answer_line_of (Refused r) left = longer_line_of (number_of r) 0 left
+abbrev pub answer_line_of : Result ℕ Refusal → List ℕ → List ℕ
+answer_line_of (Ok n) left = longer_line_of 0 (n % 2 ^ 32) left
+answer_line_of (Err r) left = longer_line_of (number_of r) 0 left
 
 -- how many numbers a script of calls wrote, by their lowest 32 bits, the job's checksum and those of two buffers; then
 -- every answer

@@ -11,7 +11,7 @@ ghost use Rattle.test_io.specs.Taken.{TakesBytes, TakesNumbers, TakesNamed};
 ghost use Rattle.output.specs.Output.{big_endian};
 ghost use Rattle.test_io.specs.Printed.{field_of, line_of, signed_line_of, longer_line_of, answer_line_of, replay_lines_of};
 
-use output::FillAnswer;
+use refusals::Refusal;
 use std::io;
 use std::io::{Read, Write};
 
@@ -301,14 +301,14 @@ pub fn print_replay<W: Write>(
 
 // What a call that fills an output answered, the refusal's number or 0 and how many places it wrote; then numbers that tell what it left.
 // How many were printed.
-pub fn print_answer<W: Write>(to: &mut W, answer: FillAnswer, left: &[u32]) -> io::Result<usize>
+pub fn print_answer<W: Write>(to: &mut W, answer: Result<usize, Refusal>, left: &[u32]) -> io::Result<usize>
     ensures count { IfOk result (λ n. n ≡ 2 + length left.now) }
     ensures text { OnOk result (Appends (W.contents to.old) (W.contents to.new)
         (answer_line_of answer left.now)) }
 {
     match answer {
-        FillAnswer::Written(n) => print_before(to, 0, count(n), left),
-        FillAnswer::Refused(refusal) => print_before(to, refusals::number_of(refusal), 0, left),
+        Ok(n) => print_before(to, 0, count(n), left),
+        Err(refusal) => print_before(to, refusals::number_of(refusal), 0, left),
     }
 }
 
@@ -323,7 +323,7 @@ fn print_before<W: Write>(to: &mut W, number: u32, written: u32, left: &[u32]) -
 }
 
 // The same of a writing, which leaves bytes.
-pub fn print_writing<W: Write>(to: &mut W, answer: FillAnswer, out: &[u8]) -> io::Result<usize>
+pub fn print_writing<W: Write>(to: &mut W, answer: Result<usize, Refusal>, out: &[u8]) -> io::Result<usize>
     ensures count { IfOk result (λ n. n ≡ 3) }
     ensures text { OnOk result (Appends (W.contents to.old) (W.contents to.new)
         (answer_line_of answer (checksum_of out.now ∷ []))) }

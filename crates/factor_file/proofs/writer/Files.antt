@@ -18,8 +18,8 @@ use Rattle.job.specs.TestSteps.{synthesis_tests}
 use Rattle.job.proofs.Jobs.{valid_parts}
 use Rattle.output.specs.Written.{Wrote}
 use Rattle.output.proofs.Writing.{wrote_filled}
-use Rattle.output.specs.declared.FillAnswer.{FillAnswer}
-use Rattle.output.specs.declared.FillAnswer.TheVariants.{Refused}
+use Rattle.std.specs.Prelude.{Result}
+use Rattle.std.specs.Prelude.{Err}
 use Rattle.factor_file.specs.File.{job_records, job_file, room_tests, held_tests, write_tests, write_step, bytes, not_sized, length_step}
 use Rattle.output.specs.Output.{written, not_written, FillOutcome, filled, not_filled}
 use Rattle.output.specs.Answers.{fill_outcome}
@@ -53,11 +53,11 @@ module _ (j : Job) (v output : List ℕ) where
   rest : List Test
   rest = room_tests (length (job_file j v)) (length output)
 
-  pub write_refused : (r : Refusal) → number_of r ≡ first held → fill_outcome (Refused r) output ≡ write_step j v output
+  pub write_refused : (r : Refusal) → number_of r ≡ first held → fill_outcome (Err r) output ≡ write_step j v output
   unfolding write_step rest
   write_refused r e = fails r (first (write_tests j v output)) _ (not_filled output) (append_stop held rest (not_zero r) e)
 
-  pub write_filed : (r : FillAnswer) (after : List ℕ) → Passed held →
+  pub write_filed : (r : Result ℕ Refusal) (after : List ℕ) → Passed held →
       fill_outcome r after ≡ filed (file_with j.modulus (job_cell j) j.a.factors j.b.factors j.c.factors v) output →
       fill_outcome r after ≡ write_step j v output
   unfolding write_step rest job_file job_records

@@ -8,7 +8,7 @@ ghost use Rattle.job.specs.Job.{analysis_tests_of};
 
 use crate::check::{map, tests};
 use cell::operations::UnitCell;
-use refusals::{Checked, Refusal};
+use refusals::Refusal;
 
 // 25, 22, 6, 13, then the map's.
 pub fn check_analysis(
@@ -18,23 +18,23 @@ pub fn check_analysis(
     cell: UnitCell,
     volume: &[u32],
     scratch: usize,
-) -> Checked
+) -> Result<(), Refusal>
     requires { valid ≡ true → Sizes cell × IsModulus modulus }
     ensures { checked_number result
         ≡ first
         (analysis_tests_of valid state modulus cell.group (cell_lengths cell) volume.now scratch) }
 {
     if !valid {
-        return Checked::Failed(Refusal::ImpossibleJob);
+        return Err(Refusal::ImpossibleJob);
     }
     if state != 2 {
-        return Checked::Failed(Refusal::NoMap);
+        return Err(Refusal::NoMap);
     }
     if !tests::fits(cell, volume) {
-        return Checked::Failed(Refusal::BufferLength);
+        return Err(Refusal::BufferLength);
     }
     if scratch < 11520 {
-        return Checked::Failed(Refusal::ScratchTooShort);
+        return Err(Refusal::ScratchTooShort);
     }
     map::check_map(modulus, cell, volume)
 }

@@ -8,7 +8,7 @@ ghost use Rattle.job.specs.Job.{factor_tests_of};
 
 use crate::check::tests;
 use cell::operations::{Index, UnitCell};
-use refusals::{Checked, Refusal};
+use refusals::Refusal;
 
 // 25, 23, 10, 6, 7: the last of the numbers that the factor is read from alone.
 pub fn check_factor(
@@ -18,27 +18,27 @@ pub fn check_factor(
     cell: UnitCell,
     at: Index,
     volume: &[u32],
-) -> Checked
+) -> Result<(), Refusal>
     requires { valid ≡ true → Sizes cell × IsModulus modulus }
     ensures { checked_number result
         ≡ first
         (factor_tests_of valid state modulus cell.group (cell_lengths cell) (triple_of at) volume.now) }
 {
     if !valid {
-        return Checked::Failed(Refusal::ImpossibleJob);
+        return Err(Refusal::ImpossibleJob);
     }
     if state == 2 {
-        return Checked::Failed(Refusal::NoFactors);
+        return Err(Refusal::NoFactors);
     }
     if !tests::inside(cell, at.h, at.k, at.l) {
-        return Checked::Failed(Refusal::Index);
+        return Err(Refusal::Index);
     }
     if !tests::fits(cell, volume) {
-        return Checked::Failed(Refusal::BufferLength);
+        return Err(Refusal::BufferLength);
     }
     let p = numbers::modulus(modulus);
     if !volume::read::factor_numbers_below(cell, at, p, volume) {
-        return Checked::Failed(Refusal::NotResidue);
+        return Err(Refusal::NotResidue);
     }
-    Checked::Sound
+    Ok(())
 }

@@ -9,20 +9,20 @@ ghost use Rattle.job.specs.Job.{map_tests};
 
 use crate::check::tests;
 use cell::operations::UnitCell;
-use refusals::{Checked, Refusal};
+use refusals::Refusal;
 use volume::consistent::map_test;
 
 // 7, 14: a volume of the right length is a map.
-pub fn check_map(modulus: u32, cell: UnitCell, volume: &[u32]) -> Checked
+pub fn check_map(modulus: u32, cell: UnitCell, volume: &[u32]) -> Result<(), Refusal>
     requires { IsVolume cell volume.now × IsModulus modulus }
     ensures { checked_number result
         ≡ first (map_tests modulus cell.group (cell_lengths cell) volume.now) }
 {
     if !tests::all_residues(modulus, volume) {
-        return Checked::Failed(Refusal::NotResidue);
+        return Err(Refusal::NotResidue);
     }
     if !map_test::consistent_map(cell, volume) {
-        return Checked::Failed(Refusal::Inconsistent);
+        return Err(Refusal::Inconsistent);
     }
-    Checked::Sound
+    Ok(())
 }

@@ -10,19 +10,19 @@ ghost use Rattle.job.specs.Job.{volume_tests, open_tests};
 use crate::check::{map, tests};
 use cell::operations::UnitCell;
 use header::bytes;
-use refusals::{Checked, Refusal};
+use refusals::Refusal;
 
 // 6, and for a map 7, 14.
-fn check_volume(modulus: u32, cell: UnitCell, kind: u32, volume: &[u32]) -> Checked
+fn check_volume(modulus: u32, cell: UnitCell, kind: u32, volume: &[u32]) -> Result<(), Refusal>
     requires { Sizes cell × IsModulus modulus }
     ensures { checked_number result
         ≡ first (volume_tests modulus cell.group (cell_lengths cell) kind volume.now) }
 {
     if !tests::fits(cell, volume) {
-        return Checked::Failed(Refusal::BufferLength);
+        return Err(Refusal::BufferLength);
     }
     if kind != 1 {
-        return Checked::Sound;
+        return Ok(());
     }
     map::check_map(modulus, cell, volume)
 }
@@ -36,24 +36,21 @@ pub fn check_open(
     f2: &[u8],
     f3: &[u8],
     volume: &[u32],
-) -> Checked
+) -> Result<(), Refusal>
     ensures { checked_number result
         ≡ first
         (open_tests modulus (cell_header cell f1.now f2.now f3.now) kind
         volume.now) }
 {
     if 5 <= cell.group {
-        return Checked::Failed(Refusal::Group);
+        return Err(Refusal::Group);
     }
     if !numbers::is_modulus(modulus) {
-        return Checked::Failed(Refusal::Modulus);
+        return Err(Refusal::Modulus);
     }
     if 2 <= kind {
-        return Checked::Failed(Refusal::Direction);
+        return Err(Refusal::Direction);
     }
-    let checked = bytes::check_header(cell, f1, f2, f3);
-    match checked {
-        Checked::Failed(refusal) => Checked::Failed(refusal),
-        Checked::Sound => check_volume(modulus, cell, kind, volume),
-    }
+    bytes::check_header(cell, f1, f2, f3)?;
+    check_volume(modulus, cell, kind, volume)
 }

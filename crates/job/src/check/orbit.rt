@@ -17,21 +17,21 @@ use crate::check::tests;
 use cell::operations;
 use cell::operations::{Index, Operation, UnitCell};
 use numbers::Pair;
-use refusals::{Checked, Refusal};
+use refusals::Refusal;
 
 // 6, 24: what the volume holds of the orbit of an index inside the cell.
-pub fn check_orbit(cell: UnitCell, at: Index, volume: &[u32]) -> Checked
+pub fn check_orbit(cell: UnitCell, at: Index, volume: &[u32]) -> Result<(), Refusal>
     requires { Sizes cell × Within cell at }
     ensures { checked_number result
         ≡ first (orbit_tests cell.group (cell_lengths cell) (triple_of at) volume.now) }
 {
     if !tests::fits(cell, volume) {
-        return Checked::Failed(Refusal::BufferLength);
+        return Err(Refusal::BufferLength);
     }
     if !orbit_free(cell, at, volume) {
-        return Checked::Failed(Refusal::Occupied);
+        return Err(Refusal::Occupied);
     }
-    Checked::Sound
+    Ok(())
 }
 
 // No image of the record falls on its own index with another value.

@@ -9,7 +9,7 @@ ghost use Rattle.job.specs.Job.{point_tests_of};
 use crate::check::tests;
 use cell::operations::{Point, UnitCell};
 use cell::places;
-use refusals::{Checked, Refusal};
+use refusals::Refusal;
 
 // 25, 22, 10, 6, 7: the last of the point's number alone.
 pub fn check_point(
@@ -19,28 +19,28 @@ pub fn check_point(
     cell: UnitCell,
     at: Point,
     volume: &[u32],
-) -> Checked
+) -> Result<(), Refusal>
     requires { valid ≡ true → Sizes cell × IsModulus modulus }
     ensures { checked_number result
         ≡ first
         (point_tests_of valid state modulus cell.group (cell_lengths cell) (point_of at) volume.now) }
 {
     if !valid {
-        return Checked::Failed(Refusal::ImpossibleJob);
+        return Err(Refusal::ImpossibleJob);
     }
     if state != 2 {
-        return Checked::Failed(Refusal::NoMap);
+        return Err(Refusal::NoMap);
     }
     if !tests::inside(cell, at.x, at.y, at.z) {
-        return Checked::Failed(Refusal::Index);
+        return Err(Refusal::Index);
     }
     if !tests::fits(cell, volume) {
-        return Checked::Failed(Refusal::BufferLength);
+        return Err(Refusal::BufferLength);
     }
     let p = numbers::modulus(modulus);
     let place = places::density_place(cell, at);
     if p <= volume[place] {
-        return Checked::Failed(Refusal::NotResidue);
+        return Err(Refusal::NotResidue);
     }
-    Checked::Sound
+    Ok(())
 }

@@ -11,7 +11,7 @@ ghost use Rattle.job.specs.Job.{own_tests, record_tests_of};
 use crate::check::{orbit, tests};
 use cell::operations::{Index, UnitCell};
 use numbers::Pair;
-use refusals::{Checked, Refusal};
+use refusals::Refusal;
 
 // Both numbers of a value are below the prime.
 fn residues(modulus: u32, a: u32, b: u32) -> bool
@@ -23,21 +23,21 @@ fn residues(modulus: u32, a: u32, b: u32) -> bool
 }
 
 // 10, 7, 12: what the record's own numbers settle.
-pub fn check_own(modulus: u32, cell: UnitCell, at: Index, x: Pair) -> Checked
+pub fn check_own(modulus: u32, cell: UnitCell, at: Index, x: Pair) -> Result<(), Refusal>
     requires { Sizes cell × IsModulus modulus }
     ensures { checked_number result
         ≡ first (own_tests modulus cell.group (cell_lengths cell) (triple_of at) x.re x.im) }
 {
     if !tests::inside(cell, at.h, at.k, at.l) {
-        return Checked::Failed(Refusal::Index);
+        return Err(Refusal::Index);
     }
     if !residues(modulus, x.re, x.im) {
-        return Checked::Failed(Refusal::NotResidue);
+        return Err(Refusal::NotResidue);
     }
     if !orbit::agrees(modulus, cell, at, x) {
-        return Checked::Failed(Refusal::Contradiction);
+        return Err(Refusal::Contradiction);
     }
-    Checked::Sound
+    Ok(())
 }
 
 // 25, 21, the record's own, then the volume's.
@@ -49,7 +49,7 @@ pub fn check_record(
     at: Index,
     x: Pair,
     volume: &[u32],
-) -> Checked
+) -> Result<(), Refusal>
     requires { valid ≡ true → Sizes cell × IsModulus modulus }
     ensures { checked_number result
         ≡ first
@@ -57,14 +57,11 @@ pub fn check_record(
         volume.now) }
 {
     if !valid {
-        return Checked::Failed(Refusal::ImpossibleJob);
+        return Err(Refusal::ImpossibleJob);
     }
     if state != 0 {
-        return Checked::Failed(Refusal::NotCollecting);
+        return Err(Refusal::NotCollecting);
     }
-    let own = check_own(modulus, cell, at, x);
-    match own {
-        Checked::Failed(refusal) => Checked::Failed(refusal),
-        Checked::Sound => orbit::check_orbit(cell, at, volume),
-    }
+    check_own(modulus, cell, at, x)?;
+    orbit::check_orbit(cell, at, volume)
 }

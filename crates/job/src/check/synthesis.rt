@@ -9,22 +9,22 @@ ghost use Rattle.job.specs.Job.{factors_tests, synthesis_tests_of};
 
 use crate::check::tests;
 use cell::operations::UnitCell;
-use refusals::{Checked, Refusal};
+use refusals::Refusal;
 use volume::consistent::factor_test;
 
 // 7, 14: a volume of the right length is held as factors.
-fn check_factors(modulus: u32, cell: UnitCell, volume: &[u32]) -> Checked
+fn check_factors(modulus: u32, cell: UnitCell, volume: &[u32]) -> Result<(), Refusal>
     requires { IsVolume cell volume.now × IsModulus modulus }
     ensures { checked_number result
         ≡ first (factors_tests modulus cell.group (cell_lengths cell) volume.now) }
 {
     if !tests::all_residues(modulus, volume) {
-        return Checked::Failed(Refusal::NotResidue);
+        return Err(Refusal::NotResidue);
     }
     if !factor_test::consistent_factors(modulus, cell, volume) {
-        return Checked::Failed(Refusal::Inconsistent);
+        return Err(Refusal::Inconsistent);
     }
-    Checked::Sound
+    Ok(())
 }
 
 // 25, 23, 6, 13, then the factors'.
@@ -35,23 +35,23 @@ pub fn check_synthesis(
     cell: UnitCell,
     volume: &[u32],
     scratch: usize,
-) -> Checked
+) -> Result<(), Refusal>
     requires { valid ≡ true → Sizes cell × IsModulus modulus }
     ensures { checked_number result
         ≡ first
         (synthesis_tests_of valid state modulus cell.group (cell_lengths cell) volume.now scratch) }
 {
     if !valid {
-        return Checked::Failed(Refusal::ImpossibleJob);
+        return Err(Refusal::ImpossibleJob);
     }
     if state == 2 {
-        return Checked::Failed(Refusal::NoFactors);
+        return Err(Refusal::NoFactors);
     }
     if !tests::fits(cell, volume) {
-        return Checked::Failed(Refusal::BufferLength);
+        return Err(Refusal::BufferLength);
     }
     if scratch < 11520 {
-        return Checked::Failed(Refusal::ScratchTooShort);
+        return Err(Refusal::ScratchTooShort);
     }
     check_factors(modulus, cell, volume)
 }

@@ -13,7 +13,7 @@ use Rattle.refusals.proofs.Tests.{passed, passes, fails}
 use Rattle.cell.specs.Volume.{volume_length}
 use Rattle.job.specs.declared.Job.{Job}
 use Rattle.job.specs.Job.{group_in, halves, map_held}
-use Rattle.output.specs.declared.FillAnswer.TheVariants.{Written, Refused}
+use Rattle.std.specs.Prelude.{Ok, Err}
 use Rattle.printing.specs.Text.{map_text, text_tests, put_text, text_step}
 use Rattle.output.specs.Output.{not_written, filled}
 use Rattle.output.specs.Answers.{fill_outcome}
@@ -23,16 +23,16 @@ use Rattle.output.proofs.Writing.{wrote_filled}
 
 -- ---- a text that goes to an output if that is long enough
 
-pub put_refused : (text out : List ℕ) → length out < length text → fill_outcome (Refused OutputTooShort) out ≡ put_text text out
+pub put_refused : (text out : List ℕ) → length out < length text → fill_outcome (Err OutputTooShort) out ≡ put_text text out
 put_refused text out h = rw (lt-ltb (length out) (length text) h)
 
-pub put_written : {n : ℕ} {text out out' : List ℕ} → Wrote 0 text out n out' → length text ≤ length out → fill_outcome (Written n) out' ≡ put_text text out
+pub put_written : {n : ℕ} {text out out' : List ℕ} → Wrote 0 text out n out' → length text ≤ length out → fill_outcome (Ok n) out' ≡ put_text text out
 put_written {n} {text} {out} {out'} w l = rw (le-ltb (length out) (length text) l) (wrote_filled w l)
 
 -- ---- the call
 
 module _ (j : Job) (v out : List ℕ) where
-  pub text_refused : (r : Refusal) → number_of r ≡ first (text_tests j v (length out)) → fill_outcome (Refused r) out ≡ text_step j v out
+  pub text_refused : (r : Refusal) → number_of r ≡ first (text_tests j v (length out)) → fill_outcome (Err r) out ≡ text_step j v out
   unfolding text_step
   text_refused r e = fails r _ _ (λ n. record { answer = not_written n; output = out }) e
 
@@ -42,7 +42,7 @@ module _ (j : Job) (v out : List ℕ) where
         let t = passed (text_tests j v (length out)) tt none in
         record { fitting = record { valid = not-false _ t.0; long = eqb-true _ _ (not-false _ t.1.1.0) }; residues = not-false _ t.1.1.1.0 }
 
-    pub text_written : {n : ℕ} {out' : List ℕ} → Wrote 0 (map_text j v) out n out' → fill_outcome (Written n) out' ≡ text_step j v out
+    pub text_written : {n : ℕ} {out' : List ℕ} → Wrote 0 (map_text j v) out n out' → fill_outcome (Ok n) out' ≡ text_step j v out
     unfolding text_step
     text_written w =
         let t = passed (text_tests j v (length out)) tt none in

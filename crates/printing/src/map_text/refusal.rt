@@ -5,7 +5,6 @@ ghost use Rattle.refusals.specs.Refusals.{number_of};
 ghost use Rattle.printing.specs.Text.{refusal_text, put_text};
 ghost use Rattle.output.specs.Answers.{fill_outcome};
 
-use output::FillAnswer;
 use refusals::Refusal;
 
 // "refused 12 at 0", from the output's first byte on.
@@ -28,13 +27,13 @@ fn refusal_length(number: u32, place: u32) -> usize
 }
 
 // The text of a refusal goes to the output's first bytes, if they are enough for it.
-pub fn refusal_text(refusal: Refusal, place: u32, out: &mut [u8]) -> FillAnswer
+pub fn refusal_text(refusal: Refusal, place: u32, out: &mut [u8]) -> Result<usize, Refusal>
     ensures { fill_outcome result out.new
         ≡ put_text (refusal_text (number_of refusal) place) out.old }
 {
     let number = refusals::number_of(refusal);
     if out.len() < refusal_length(number, place) {
-        return FillAnswer::Refused(Refusal::OutputTooShort);
+        return Err(Refusal::OutputTooShort);
     }
-    FillAnswer::Written(put_refusal(out, number, place))
+    Ok(put_refusal(out, number, place))
 }

@@ -14,8 +14,7 @@ use crate::map_text::residues;
 use cell::places;
 use job::check::tests;
 use job::{Job, valid};
-use output::FillAnswer;
-use refusals::{Checked, Refusal};
+use refusals::Refusal;
 
 // "map", the group and the lengths.
 fn put_head(out: &mut [u8], at: usize, job: Job) -> usize
@@ -102,34 +101,31 @@ fn map_length(job: Job, volume: &[u32]) -> usize
 }
 
 // 25, 22, 6, 7, 18.
-fn check_text(job: Job, volume: &[u32], room: usize) -> Checked
+fn check_text(job: Job, volume: &[u32], room: usize) -> Result<(), Refusal>
     ensures { checked_number result ≡ first (text_tests job volume.now room) }
 {
     if !valid::valid_job(job) {
-        return Checked::Failed(Refusal::ImpossibleJob);
+        return Err(Refusal::ImpossibleJob);
     }
     if job.state != 2 {
-        return Checked::Failed(Refusal::NoMap);
+        return Err(Refusal::NoMap);
     }
     if !tests::fits(job.unit_cell(), volume) {
-        return Checked::Failed(Refusal::BufferLength);
+        return Err(Refusal::BufferLength);
     }
     if !residues::prints_residues(job, volume) {
-        return Checked::Failed(Refusal::NotResidue);
+        return Err(Refusal::NotResidue);
     }
     if room < map_length(job, volume) {
-        return Checked::Failed(Refusal::OutputTooShort);
+        return Err(Refusal::OutputTooShort);
     }
-    Checked::Sound
+    Ok(())
 }
 
 // The text of the map that a job holds goes to the output's first bytes, or the call is refused and changes nothing.
-pub fn map_text(job: Job, volume: &[u32], out: &mut [u8]) -> FillAnswer
+pub fn map_text(job: Job, volume: &[u32], out: &mut [u8]) -> Result<usize, Refusal>
     ensures { fill_outcome result out.new ≡ text_step job volume.now out.old }
 {
-    let checked = check_text(job, volume, out.len());
-    match checked {
-        Checked::Failed(refusal) => FillAnswer::Refused(refusal),
-        Checked::Sound => FillAnswer::Written(put_map(out, job, volume)),
-    }
+    check_text(job, volume, out.len())?;
+    Ok(put_map(out, job, volume))
 }

@@ -6,13 +6,14 @@ use native.Mathlib.Omega.{arith}
 use lib.ListN.{length}
 use Rattle.refusals.specs.Refusals.{first, accepted}
 use Rattle.lengths.specs.Lengths.{cleared}
-use Rattle.job.specs.declared.Answered.{Answered}
+use Rattle.std.specs.Prelude.{Result}
+use Rattle.refusals.specs.declared.Refusal.{Refusal}
 use Rattle.job.specs.declared.Job.{Job}
 use Rattle.job.specs.declared.Reflection.{Reflection}
 use Rattle.job.specs.declared.GridPoint.{GridPoint}
 use Rattle.job.specs.Job.{with_state, factors_held, map_held, Said, done, Outcome, Worked, unchanged, position, index, record_step, synthesised, synthesis_step, analysed, analysis_step, point_step, factor_step, map_power_step, factor_power_step}
 use Rattle.job.specs.TestSteps.{synthesis_tests, analysis_tests, point_tests, factor_tests, map_power_tests, factor_power_tests}
-use Rattle.job.specs.Answers.{said, outcome, worked, reply_of}
+use Rattle.job.specs.Answers.{said, job_after, outcome, worked, reply_of}
 use Rattle.scripts.specs.declared.layout.CallNumbers.{CallNumbers}
 use Rattle.scripts.specs.Script.{Call, recording, synthesis, analysis, read_point, read_factor, read_map_power, read_factor_power, step, call_of, call_at, numbers_at, call_said, cleared_if_done, scratch_left, call_step, call_outcome}
 use Rattle.scripts.specs.declared.calls.Called.{Called}
@@ -145,18 +146,18 @@ module _ (j : Job) (v : List ℕ) (r : Called) where
       let d = b ∙ ap (λ (q : Outcome). q.job) e in
       λ i. record { reply = p i; job = d i; volume = (e i).volume; scratch = t i }
 
-  module _ (a : Answered) (v' : List ℕ) (says : r.reply ≡ reply_of (said a.answer)) (goes : r.job ≡ a.job) where
-    pub call_record : (s : List ℕ) (n : CallNumbers) → n.operation ≡ 0 → outcome a v' ≡ record_step j (record { 0 = n.h; 1 = n.k; 2 = n.l }) n.x n.y v → call_outcome r v' s ≡ call_step j v s (call_said s n)
+  module _ (a : Result Job Refusal) (v' : List ℕ) (says : r.reply ≡ reply_of (said a)) (goes : r.job ≡ job_after j a) where
+    pub call_record : (s : List ℕ) (n : CallNumbers) → n.operation ≡ 0 → outcome j a v' ≡ record_step j (record { 0 = n.h; 1 = n.k; 2 = n.l }) n.x n.y v → call_outcome r v' s ≡ call_step j v s (call_said s n)
     unfolding call_of
     call_record s n z e =
-        of_outcome (outcome a v') (recording (record { 0 = n.h; 1 = n.k; 2 = n.l }) n.x n.y) s s e says goes refl
+        of_outcome (outcome j a v') (recording (record { 0 = n.h; 1 = n.k; 2 = n.l }) n.x n.y) s s e says goes refl
         ∙ rw z refl
 
-    pub call_synthesis : (s s' : List ℕ) → worked a v' s' ≡ synthesis_step j v s → call_outcome r v' s' ≡ call_step j v s (synthesis s)
-    call_synthesis s s' e = of_outcome (outcome a v') (synthesis s) s s' (ap (λ (w : Worked). w.outcome) e) says goes (ap (λ (w : Worked). w.scratch) e ∙ synthesis_scratch j v s)
+    pub call_synthesis : (s s' : List ℕ) → worked j a v' s' ≡ synthesis_step j v s → call_outcome r v' s' ≡ call_step j v s (synthesis s)
+    call_synthesis s s' e = of_outcome (outcome j a v') (synthesis s) s s' (ap (λ (w : Worked). w.outcome) e) says goes (ap (λ (w : Worked). w.scratch) e ∙ synthesis_scratch j v s)
 
-    pub call_analysis : (s s' : List ℕ) → worked a v' s' ≡ analysis_step j v s → call_outcome r v' s' ≡ call_step j v s (analysis s)
-    call_analysis s s' e = of_outcome (outcome a v') (analysis s) s s' (ap (λ (w : Worked). w.outcome) e) says goes (ap (λ (w : Worked). w.scratch) e ∙ analysis_scratch j v s)
+    pub call_analysis : (s s' : List ℕ) → worked j a v' s' ≡ analysis_step j v s → call_outcome r v' s' ≡ call_step j v s (analysis s)
+    call_analysis s s' e = of_outcome (outcome j a v') (analysis s) s s' (ap (λ (w : Worked). w.outcome) e) says goes (ap (λ (w : Worked). w.scratch) e ∙ analysis_scratch j v s)
 
   module _ (a : Said) (says : r.reply ≡ reply_of a) (goes : r.job ≡ j) (s : List ℕ) (n : CallNumbers) where
     read : (c : Call) → c ≡ call_said s n → reading (step j v c).answer j v ≡ step j v c → s ≡ scratch_left c (step j v c).answer s → a ≡ (step j v c).answer → call_outcome r v s ≡ call_step j v s (call_said s n)

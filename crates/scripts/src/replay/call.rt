@@ -35,12 +35,12 @@ fn synthesis_call(job: Job, volume: &mut [u32], scratch: &mut [u32]) -> Called
     ensures { call_outcome result volume.new scratch.new
         ≡ call_step job volume.old scratch.old (synthesis scratch.old) }
 {
-    crate::calls::of_answered(job.synthesis(volume, scratch))
+    crate::calls::of_answered(job, job.synthesis(volume, scratch))
 }
 
 fn analysis_call(job: Job, volume: &mut [u32], scratch: &mut [u32]) -> Called
     ensures { call_outcome result volume.new scratch.new
         ≡ call_step job volume.old scratch.old (analysis scratch.old) }
 {
-    crate::calls::of_answered(job.analysis(volume, scratch))
+    crate::calls::of_answered(job, job.analysis(volume, scratch))
 }

@@ -41,6 +41,7 @@ pub fn read_bytes<R: Read>(from: &mut R, v: &mut [u8]) -> io::Result<bool>
     ensures len { length v.new ≡ length v.old }
     ensures bytes { IfOk result (λ whole. TakesBytes (R.remaining from.old) (R.remaining from.new) whole v.new) }
 {
+    // A `while`: the reader says how far each turn goes.
     let mut done: usize = 0;
     while done < v.len() {
         let n = from.read(&mut v[done..])?;
@@ -67,15 +68,13 @@ pub fn read_numbers<R: Read>(from: &mut R, v: &mut [u32]) -> io::Result<bool>
     ensures len { length v.new ≡ length v.old }
     ensures numbers { IfOk result (λ whole. TakesNumbers (R.remaining from.old) (R.remaining from.new) whole v.new) }
 {
-    let mut j: usize = 0;
-    while j < v.len() {
+    for x in v.iter_mut() {
         let mut c = [0u8; 4];
         let whole = read_bytes(from, &mut c)?;
         if !whole {
             return Ok(false);
         }
-        v[j] = number(&c);
-        j += 1;
+        *x = number(&c);
     }
     Ok(true)
 }
@@ -94,11 +93,7 @@ pub fn numbers_read<'a, R: Read>(from: &mut R, v: &'a mut [u32]) -> io::Result<&
 fn named(table: &[i64], code: u8) -> i64
     ensures { result ≡ slice_index_or table.now code (pos 0) }
 {
-    let i = code as usize;
-    if i < table.len() {
-        return table[i];
-    }
-    0
+    table.get(usize::from(code)).copied().unwrap_or(0)
 }
 
 // The next numbers of the input, a byte each, which names a number of a table.
@@ -106,12 +101,11 @@ pub fn read_named<R: Read>(from: &mut R, table: &[i64], v: &mut [i64]) -> io::Re
     ensures len { length v.new ≡ length v.old }
     ensures named { OnOk result (TakesNamed (R.remaining from.old) (R.remaining from.new) table.now v.new) }
 {
-    let mut j: usize = 0;
-    while j < v.len() {
+    // By places, and not `iter_mut`: an edit plants a wrong place, which must be refused.
+    for j in 0..v.len() {
         let mut c = [0u8; 1];
         read_bytes(from, &mut c)?;
         v[j] = named(table, c[0]);
-        j += 1;
     }
     Ok(())
 }
@@ -120,10 +114,7 @@ pub fn read_named<R: Read>(from: &mut R, table: &[i64], v: &mut [i64]) -> io::Re
 pub fn at(r: &[u32], i: usize) -> u32
     ensures { result ≡ get_or r.now i 0 }
 {
-    if i < r.len() {
-        return r[i];
-    }
-    0
+    r.get(i).copied().unwrap_or(0)
 }
 
 // The length that a record names at a place, as much of it as a buffer has.
@@ -136,11 +127,7 @@ pub fn length_at(r: &[u32], i: usize, most: usize) -> usize
 fn at_most(x: u32, most: usize) -> usize
     ensures { (result ≡ min x most) × (result ≤ most) }
 {
-    let n = x as usize;
-    if n < most {
-        return n;
-    }
-    most
+    most.min(x as usize)
 }
 
 // The bytes from a place of a record on, as many as it says, and no more than it has for them.
@@ -171,23 +158,17 @@ pub fn fill_below(v: &mut [u32], seed: u32, p: u32)
     requires { 0 < p }
     ensures { (k : ℕ) → k < length v.new → get_or v.new k 0 < p }
 {
-    let mut state = seed as u64;
-    let mut j: usize = 0;
-    while j < v.len() {
+    let mut state = u64::from(seed);
+    for x in v.iter_mut() {
         state = (state * 1103515245 + 12345) % 2147483648;
-        v[j] = (state / 8 % p as u64) as u32;
-        j += 1;
+        *x = (state / 8 % u64::from(p)) as u32;
     }
 }
 
 pub fn fill_with(v: &mut [u32], x: u32)
     ensures { v.new ≡ replicate (length v.old) x }
 {
-    let mut j: usize = 0;
-    while j < v.len() {
-        v[j] = x;
-        j += 1;
-    }
+    v.fill(x);
 }
 
 // Another number at one place, where the buffer has it.
@@ -212,22 +193,19 @@ pub fn checksum(v: &[u32]) -> u32
     ensures { result ≡ checksum_of v.now }
 {
     let mut h: u64 = 7;
-    let mut j: usize = 0;
-    while j < v.len() {
-        h = more(h, v[j]);
-        j += 1;
+    for x in v {
+        h = more(h, *x);
     }
     h as u32
 }
 
+// The same of bytes. A generic one would need a list of what T's numbers are in its contract, and both of these contracts beside it.
 fn byte_checksum(v: &[u8]) -> u32
     ensures { result ≡ checksum_of v.now }
 {
     let mut h: u64 = 7;
-    let mut j: usize = 0;
-    while j < v.len() {
-        h = more(h, u32::from(v[j]));
-        j += 1;
+    for x in v {
+        h = more(h, u32::from(*x));
     }
     h as u32
 }

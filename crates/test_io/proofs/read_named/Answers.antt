@@ -7,4 +7,4 @@ use Rattle.test_io.proofs.read_named.Goals as goal
 pub loop-j-preserved : goal.loop-j-preserved
 loop-j-preserved g c =
     let read = c.in_ok-read_bytes.ensures in
-    (search rules, named_next _ _ _ _ _ _ c.in_ok-read_bytes.field-0 _ _ read.len c.loop-j-test.true (to_z-of_z w64 c.named.result (search rules) ∙ c.named.ensures) c.loop-j.invariant.1 read.bytes)
+    named_next _ _ _ _ _ _ c.in_ok-read_bytes.field-0 _ _ read.len (search rules) (to_z-of_z w64 c.named.result (search rules) ∙ c.named.ensures) c.loop-j.invariant read.bytes

@@ -22,40 +22,31 @@ const SCORES: [i64; 8] = [
 ];
 
 // The place of a score among them: 8 for a number that is none of them, as stands in places that were not written.
-fn code(scores: &[i64; 8], x: i64) -> u32 {
-    let mut c: u32 = 0;
-    while c < 8 {
-        if x == scores[c as usize] {
-            return c;
-        }
-        c += 1;
+fn code(x: i64) -> u32 {
+    match SCORES.iter().position(|score| *score == x) {
+        Some(place) => place as u32,
+        None => 8,
     }
-    8
 }
 
 fn scores_checksum(v: &[i64]) -> u32
     requires { length v.now ≤ 256 }
 {
-    let scores = SCORES;
     let mut codes = [0u32; 256];
-    let mut j: usize = 0;
-    while j < v.len() {
-        codes[j] = code(&scores, v[j]);
-        j += 1;
+    for (c, x) in codes.iter_mut().zip(v) {
+        *c = code(*x);
     }
-    test_io::checksum(&codes[..j])
+    test_io::checksum(&codes[..v.len()])
 }
 
 fn places_checksum(v: &[u64]) -> u32
     requires { length v.now ≤ 256 }
 {
     let mut places = [0u32; 256];
-    let mut j: usize = 0;
-    while j < v.len() {
-        places[j] = (v[j] % 4294967296) as u32;
-        j += 1;
+    for (place, x) in places.iter_mut().zip(v) {
+        *place = (x % 4294967296) as u32;
     }
-    test_io::checksum(&places[..j])
+    test_io::checksum(&places[..v.len()])
 }
 
 // One call on the four outputs, and all that they hold then.

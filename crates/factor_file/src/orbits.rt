@@ -36,12 +36,9 @@ fn none_before(cell: UnitCell, j: Index) -> bool
     ensures { result ≡ is_lowest (cell_group cell) (cell_halves cell) (triple_of j) }
 {
     let count = operations::operation_count(cell.group);
-    let mut number = 1;
-    while number < count {
+    for number in 1..count {
         let o = operations::operation_at(cell.group, number);
-        if no_later(j, operations::image(o, cell, j)) {
-            number += 1;
-        } else {
+        if !no_later(j, operations::image(o, cell, j)) {
             return false;
         }
     }

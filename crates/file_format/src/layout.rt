@@ -14,6 +14,7 @@ pub fn digit_count(factors: u32) -> usize
     ensures { result ≡ length (octal_digits factors) }
 {
     let mut count: usize = 0;
+    // A `while`: the number itself says when its digits end.
     let mut rest = factors;
     while rest != 0 {
         count += 1;

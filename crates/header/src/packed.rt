@@ -14,6 +14,7 @@ fn digits_product_is(factors: u32, n: u32) -> bool
 {
     let mut ok = true;
     let mut done: u32 = 1;
+    // A `while`: the number itself says when its digits end.
     let mut rest = factors;
     while rest != 0 {
         let digit = rest % 8;

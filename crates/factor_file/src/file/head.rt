@@ -14,6 +14,7 @@ fn put_digits(factors: u32, out: &mut [u8], start: usize) -> usize
     ensures { Wrote start (octal_digits factors) out.old result out.new }
 {
     let mut at = start;
+    // A `while`: the number itself says when its digits end.
     let mut rest = factors;
     while rest != 0 {
         at = output::put_byte(out, at, (rest % 8) as u8);

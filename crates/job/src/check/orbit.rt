@@ -40,11 +40,8 @@ pub fn agrees(m: u32, cell: UnitCell, j: Index, x: Pair) -> bool
     ensures { result ≡ agrees_with_itself (cell_group cell) (cell_halves cell) m (triple_of j) (value_of m x) }
 {
     let count = operations::operation_count(cell.group);
-    let mut i = 0;
-    while i < count {
-        if agrees_under(m, operations::operation_at(cell.group, i), cell, j, x) {
-            i += 1;
-        } else {
+    for i in 0..count {
+        if !agrees_under(m, operations::operation_at(cell.group, i), cell, j, x) {
             return false;
         }
     }
@@ -77,13 +74,10 @@ fn orbit_free(cell: UnitCell, j: Index, volume: &[u32]) -> bool
     ensures { result ≡ orbit_free (cell_group cell) (cell_halves cell) volume.now (triple_of j) }
 {
     let count = operations::operation_count(cell.group);
-    let mut i = 0;
-    while i < count {
+    for i in 0..count {
         let o = operations::operation_at(cell.group, i);
         let to = operations::image(o, cell, j);
-        if volume::read::factor_numbers_below(cell, to, 1, volume) {
-            i += 1;
-        } else {
+        if !volume::read::factor_numbers_below(cell, to, 1, volume) {
             return false;
         }
     }

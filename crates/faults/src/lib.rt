@@ -181,14 +181,12 @@ fn first_unsound(file: &[u8], start: usize, modulus: u32, cell: UnitCell, count:
     requires { IsModulus modulus × Records cell file.now start × (count ≡ record_count file.now) }
     ensures { FirstUnsound modulus cell file.now result }
 {
-    let mut i: u32 = 0;
-    while i < count {
+    for i in 0..count {
         if !sound_at(file, start + 14 * i as usize, modulus, cell) {
             return i;
         }
-        i += 1;
     }
-    i
+    count
 }
 
 // The first record below a limit whose orbit has come before, or the limit.
@@ -201,10 +199,8 @@ fn first_repeated(file: &[u8], start: usize, cell: UnitCell, limit: u32) -> u32
 {
     let places = header::bytes::volume_length(cell) as usize;
     let mut least = limit;
-    let mut low: usize = 0;
-    while low < places {
+    for low in (0..places).step_by(RANGE) {
         least = repeated_in_range(file, start, cell, least, low);
-        low += RANGE;
     }
     least
 }
@@ -235,15 +231,13 @@ fn walk_range(
     ensures { Apart cell file.now low (low + range) result
         × Stops cell file.now limit result }
 {
-    let mut i: u32 = 0;
-    while i < limit {
+    for i in 0..limit {
         let place = place_at(file, start + 14 * i as usize, cell);
         if note(marks, low, place) {
             return i;
         }
-        i += 1;
     }
-    i
+    limit
 }
 
 // Whether a place in the range from low on was marked; afterwards it is.
@@ -267,12 +261,10 @@ fn first_of_orbit(file: &[u8], start: usize, cell: UnitCell, last: u32) -> u32
     ensures { FirstOf cell file.now last result }
 {
     let place = place_at(file, start + 14 * last as usize, cell);
-    let mut i: u32 = 0;
-    while i < last {
+    for i in 0..last {
         if place_at(file, start + 14 * i as usize, cell) == place {
             return i;
         }
-        i += 1;
     }
-    i
+    last
 }

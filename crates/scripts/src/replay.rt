@@ -46,12 +46,10 @@ pub fn replay(
 {
     let count = call_count(script.len(), answers.len());
     let mut held = job;
-    let mut i: usize = 0;
-    while i < count {
+    for i in 0..count {
         let called = call::call_at(held, script, i, volume, scratch);
         crate::layout::write_reply(answers, i, called.reply);
         held = called.job;
-        i += 1;
     }
     Replayed {
         job: held,

@@ -18,6 +18,7 @@ fn read_full<R: Read>(from: &mut R, v: &mut [u8]) -> io::Result<usize>
     ensures bytes { IfOk result (λ n. Consumes (R.remaining from.old) (R.remaining from.new) (take n v.new)) }
     ensures end { IfOk result (λ n. n < length v.new → IsAtEnd (R.remaining from.new)) }
 {
+    // A `while`: the reader says how far each turn goes.
     let mut done: usize = 0;
     while done < v.len() {
         let n = from.read(&mut v[done..])?;

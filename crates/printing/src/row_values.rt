@@ -10,15 +10,7 @@ pub fn are_residues(p: u32, volume: &[u32], start: usize, n: usize) -> bool
     requires { start + n ≤ length volume.now }
     ensures { result ≡ below n (λ y. ltb (get_or volume.now (start + y) 0) p) }
 {
-    let mut y = 0;
-    while y < n {
-        if volume[start + y] < p {
-            y += 1;
-        } else {
-            return false;
-        }
-    }
-    true
+    volume[start..start + n].iter().all(|value| *value < p)
 }
 
 // The n numbers of a volume from `start` on, which are residues, with their signs, a blank before each.
@@ -38,11 +30,9 @@ pub fn put_values(
         out.old result out.new }
 {
     let mut place = at;
-    let mut y = 0;
-    while y < n {
+    for y in 0..n {
         let value = volume[start + y];
         place = put_value(out, place, p, value);
-        y += 1;
     }
     place
 }

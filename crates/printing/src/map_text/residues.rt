@@ -15,11 +15,8 @@ pub fn prints_residues(job: Job, volume: &[u32]) -> bool
     ensures { result ≡ prints_residues job volume.now }
 {
     let planes = places::layer_count(job.unit_cell());
-    let mut z: u32 = 0;
-    while z < planes {
-        if plane_residues(job, volume, z) {
-            z += 1;
-        } else {
+    for z in 0..planes {
+        if !plane_residues(job, volume, z) {
             return false;
         }
     }
@@ -31,12 +28,8 @@ fn plane_residues(job: Job, volume: &[u32], z: u32) -> bool
     requires { Fitting job volume.now × (z < layers (group_in job) (halves job)) }
     ensures { result ≡ below job.a.length (λ x. row_residues job volume.now z x) }
 {
-    let n1 = job.a.length;
-    let mut x: u32 = 0;
-    while x < n1 {
-        if row_residues(job, volume, z, x) {
-            x += 1;
-        } else {
+    for x in 0..job.a.length {
+        if !row_residues(job, volume, z, x) {
             return false;
         }
     }

@@ -51,12 +51,9 @@ fn put_plane(out: &mut [u8], at: usize, job: Job, volume: &[u32], z: u32) -> usi
     ensures { Wrote at (each job.a.length (λ x. row_line job volume.now z x))
         out.old result out.new }
 {
-    let n1 = job.a.length;
     let mut place = at;
-    let mut x: u32 = 0;
-    while x < n1 {
+    for x in 0..job.a.length {
         place = put_row(out, place, job, volume, z, x);
-        x += 1;
     }
     place
 }
@@ -74,10 +71,8 @@ fn put_planes(out: &mut [u8], at: usize, job: Job, volume: &[u32]) -> usize
 {
     let planes = places::layer_count(job.unit_cell());
     let mut place = at;
-    let mut z: u32 = 0;
-    while z < planes {
+    for z in 0..planes {
         place = put_plane(out, place, job, volume, z);
-        z += 1;
     }
     place
 }

@@ -60,6 +60,7 @@ fn judge_records(
 {
     let mut at = start;
     let mut place = 0;
+    // A `loop`: what was read says whether a record stands here, and where the next one does.
     loop {
         let step = reader::read_record(file, at);
         let Some(c) = step.found else {
@@ -123,6 +124,7 @@ fn record_all(file: &[u8], start: usize, modulus: u32, cell: UnitCell, volume: &
         volume.old }
 {
     let mut at = start;
+    // A `loop`: what was read says whether a record stands here, and where the next one does.
     loop {
         let step = reader::read_record(file, at);
         let Some(c) = step.found else {

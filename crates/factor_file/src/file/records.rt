@@ -95,6 +95,7 @@ pub fn put_records(
 {
     let mut at = start;
     let mut j = Index { h: 0, k: 0, l: 0 };
+    // One `while` from place to place, and not three nested loops: what is left to write is told once, by `next_place`.
     while j.h <= cell.n1 / 2 {
         at = put_place(modulus, cell, j, volume, out, at);
         j = next_place(cell, j);

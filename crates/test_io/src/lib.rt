@@ -3,7 +3,7 @@
 // What reads takes a reader and what prints a writer, and each answers the first error that it meets. No reader is read beyond what is asked.
 #![tactic(auto)]
 
-ghost use Rattle.std.specs.Prelude.{◌≡◌, ℕ, ◌+◌, ◌*◌, ◌%◌, ◌<◌, ◌≤◌, min, length, get_or, set, replicate, take, drop, [], ◌∷◌, ◌^◌, IfOk, OnOk, slice_index_or, pos, Bool};
+ghost use Rattle.std.specs.Prelude.{◌≡◌, ℕ, ◌+◌, ◌*◌, ◌%◌, ◌<◌, ◌≤◌, min, length, get_or, set, replicate, take, drop, [], ◌∷◌, ◌^◌, IfOk, IfSome, OnOk, slice_index_or, pos, Bool};
 ghost use Rattle.std.specs.Fmt.{decimal, signed_decimal};
 ghost use Rattle.std.specs.Io.KnownBytes.{Appends};
 ghost use Rattle.test_io.specs.Checksum.{checksum_of};
@@ -12,28 +12,21 @@ ghost use Rattle.output.specs.Output.{big_endian};
 ghost use Rattle.test_io.specs.Printed.{field_of, line_of, signed_line_of, longer_line_of, answer_line_of, replay_lines_of};
 
 use refusals::Refusal;
+use std::fmt::Display;
 use std::io;
 use std::io::{Read, Write};
 
 pub fn wide(b: u8) -> u32
     ensures { result < 256 }
 {
-    b as u32
-}
-
-fn wide64(x: u32) -> u64
-    ensures { (result ≡ x) × (result < 4294967296) }
-{
-    x as u64
+    u32::from(b)
 }
 
 // A big-endian number.
 fn number(c: &[u8; 4]) -> u32
     ensures { big_endian 4 result ≡ c.now }
 {
-    let high = u32::from(c[0]) * 256 + u32::from(c[1]);
-    let low = u32::from(c[2]) * 256 + u32::from(c[3]);
-    high * 65536 + low
+    u32::from_be_bytes(*c)
 }
 
 // The next bytes of the input; whether it has as many.
@@ -185,7 +178,7 @@ fn more(h: u64, x: u32) -> u64
     requires { h < 2147483647 }
     ensures { (result ≡ (h * 31 + x + 1) % 2147483647) × (result < 2147483647) }
 {
-    (h * 31 + wide64(x) + 1) % 2147483647
+    (h * 31 + u64::from(x) + 1) % 2147483647
 }
 
 // Of every number and its place.
@@ -211,8 +204,8 @@ fn byte_checksum(v: &[u8]) -> u32
 }
 
 // The number j of a line: a blank stands before all but the first.
-fn print_next<W: Write>(to: &mut W, j: usize, x: u32) -> io::Result<()>
-    ensures { OnOk result (Appends (W.contents to.old) (W.contents to.new) (field_of j (decimal x))) }
+fn print_next<W: Write, T: Display>(to: &mut W, j: usize, x: &T) -> io::Result<()>
+    ensures { OnOk result (IfSome (T.output x.now) (λ text. Appends (W.contents to.old) (W.contents to.new) (field_of j text))) }
 {
     if 0 < j {
         write!(to, " {x}")
@@ -227,32 +220,21 @@ pub fn print_line<W: Write>(to: &mut W, v: &[u32]) -> io::Result<usize>
     ensures text { OnOk result (Appends (W.contents to.old) (W.contents to.new) (line_of v.now)) }
 {
     for (j, x) in v.iter().enumerate() {
-        print_next(to, j, *x)?;
+        print_next(to, j, x)?;
     }
     to.write_all(b"\n")?;
     Ok(v.len())
 }
 
-// A number j of a line, with its sign.
-fn print_next_signed<W: Write>(to: &mut W, j: usize, x: i64) -> io::Result<()>
-    ensures { OnOk result (Appends (W.contents to.old) (W.contents to.new)
-        (field_of j (signed_decimal x))) }
-{
-    if 0 < j {
-        write!(to, " {x}")
-    } else {
-        write!(to, "{x}")
-    }
-}
-
 // A line of numbers with their signs; how many were printed.
+// specs/Printed tells the two lines apart: one function for both would have a contract of its own beside theirs.
 pub fn print_signed_line<W: Write>(to: &mut W, v: &[i64]) -> io::Result<usize>
     ensures count { IfOk result (λ n. n ≡ length v.now) }
     ensures text { OnOk result (Appends (W.contents to.old) (W.contents to.new)
         (signed_line_of v.now)) }
 {
     for (j, x) in v.iter().enumerate() {
-        print_next_signed(to, j, *x)?;
+        print_next(to, j, x)?;
     }
     to.write_all(b"\n")?;
     Ok(v.len())

@@ -1,5 +1,9 @@
+use Rattle.std.proofs.Common.{◌≡◌, ◌+◌, ◌*◌, get_or, arith}
 use Rattle.test_io.proofs.Taking.{number_bytes}
 use Rattle.test_io.proofs.number.Goals as goal
 
 pub returns : goal.returns
-returns c = rw (c.from.ensures, c.from-2.ensures, c.from-3.ensures, c.from-4.ensures) (number_bytes c.args.c.now c.told-c c.fits-c)
+returns c =
+    let s = c.args.c.now in
+    let e : c.from_be_bytes.result ≡ (get_or s 0 0 * 256 + get_or s 1 0) * 65536 + (get_or s 2 0 * 256 + get_or s 3 0) = omega (arith, c.from_be_bytes.ensures) in
+    rw e (number_bytes s c.told-c c.fits-c)

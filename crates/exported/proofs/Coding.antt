@@ -62,7 +62,7 @@ file_coded_lem a r v o h e = ap (λ r. (r, v)) h ∙ ap file_coded e
 pub faults_coded_lem : (a : Faults) (r : FaultsCoded) (places : List ℕ) → r ≡ faults_coded (said_faults a) → said_faults a ≡ places → r ≡ faults_coded places
 faults_coded_lem a r places h e = h ∙ ap faults_coded e
 
-module _ {held : Job} (a : Result Job Refusal) (r : JobCoded) (h : r ≡ record { number = (reply_of (said a)).number; job = job_after held a }) (v : List ℕ) where
+module _ (held : Job) (a : Result Job Refusal) (r : JobCoded) (h : r ≡ record { number = (reply_of (said a)).number; job = job_after held a }) (v : List ℕ) where
   pub record_coded_lem : (o : Outcome) → outcome held a v ≡ o → (r, v) ≡ record_coded o
   record_coded_lem o e = ap (λ r. (r, v)) h ∙ ap record_coded e
 
@@ -111,13 +111,13 @@ line_coded_lem r n l s o h e = ap (λ n. (n, l, s)) h ∙ ap line_coded e
 pub next_coded_lem : (a : Result (Option ℕ) Refusal) (r : NextCoded) (s : Lanes.Said) → r ≡ next_coded (said_next a) → said_next a ≡ s → r ≡ next_coded s
 next_coded_lem a r s h e = h ∙ ap next_coded e
 
-module _ {held : Scheduler} (a : Result Scheduler Refusal) (r : LaneCoded) (h : r ≡ stepped_coded (said_lane a) (scheduler_after held a)) (v s : List ℕ) (o : Lanes.Outcome) (e : lane_outcome held a v s ≡ o) where
+module _ (held : Scheduler) (a : Result Scheduler Refusal) (r : LaneCoded) (h : r ≡ stepped_coded (said_lane a) (scheduler_after held a)) (v s : List ℕ) (o : Lanes.Outcome) (e : lane_outcome held a v s ≡ o) where
   pub lane_coded_lem : r ≡ lane_coded o
   lane_coded_lem = h ∙ ap lane_coded e
 
   pub enter_coded_lem : (r, s) ≡ enter_coded o
   enter_coded_lem = ap (λ r. (r, s)) h ∙ ap enter_coded e
 
-pub turn_coded_lem : {held : Scheduler} (a : Result Turned Refusal) (r : TurnCoded) (v s : List ℕ) (o : Lanes.Outcome) → r ≡ (turn_coded (turn_outcome held a [] [])).0 → turn_outcome held a v s ≡ o → (r, v, s) ≡ turn_coded o
-turn_coded_lem (Ok t) r v s o h e = ap (λ r. (r, v, s)) h ∙ ap turn_coded e
-turn_coded_lem (Err f) r v s o h e = ap (λ r. (r, v, s)) h ∙ ap turn_coded e
+pub turn_coded_lem : (held : Scheduler) (a : Result Turned Refusal) (r : TurnCoded) (v s : List ℕ) (o : Lanes.Outcome) → r ≡ (turn_coded (turn_outcome held a [] [])).0 → turn_outcome held a v s ≡ o → (r, v, s) ≡ turn_coded o
+turn_coded_lem held (Ok t) r v s o h e = ap (λ r. (r, v, s)) h ∙ ap turn_coded e
+turn_coded_lem held (Err f) r v s o h e = ap (λ r. (r, v, s)) h ∙ ap turn_coded e

@@ -17,7 +17,7 @@ shape_of-scratch : tie.Need-shape_of-scratch
 shape_of-scratch c = search rules
 
 returns : tie.Need-returns
-returns c = let w = c.before.before.before.before.before.analysis in work_coded_lem w.result _ c.answered_coded.ensures _ _ _ w.ensures
+returns c = let w = c.before.before.before.before.before.analysis in work_coded_lem _ w.result _ c.answered_coded.ensures _ _ _ w.ensures
 
 pub recorder_analysis_spec : {M : Type 1} → statement M
 recorder_analysis_spec = tie.close (tie.spec analysis-requires answered_coded-requires shape_of-volume shape_of-scratch returns)

@@ -14,7 +14,7 @@ shape_of-volume : tie.Need-shape_of-volume
 shape_of-volume c = search rules
 
 returns : tie.Need-returns
-returns c = let w = c.before.before.before.«record» in record_coded_lem w.result _ c.answered_coded.ensures _ _ w.ensures
+returns c = let w = c.before.before.before.«record» in record_coded_lem _ w.result _ c.answered_coded.ensures _ _ w.ensures
 
 pub recorder_record_spec : {M : Type 1} → statement M
 recorder_record_spec = tie.close (tie.spec record-requires answered_coded-requires shape_of-volume returns)

@@ -14,7 +14,7 @@ shape_of-scratch : tie.Need-shape_of-scratch
 shape_of-scratch c = search rules
 
 returns : tie.Need-returns
-returns c = let w = c.before.before.before.enter in enter_coded_lem w.result _ c.lane_coded.ensures _ _ _ w.ensures
+returns c = let w = c.before.before.before.enter in enter_coded_lem _ w.result _ c.lane_coded.ensures _ _ _ w.ensures
 
 pub recorder_scheduler_enter_spec : {M : Type 1} → statement M
 recorder_scheduler_enter_spec = tie.close (tie.spec enter-requires lane_coded-requires shape_of-scratch returns)

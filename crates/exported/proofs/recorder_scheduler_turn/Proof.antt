@@ -17,7 +17,7 @@ shape_of-scratch : tie.Need-shape_of-scratch
 shape_of-scratch c = search rules
 
 returns : tie.Need-returns
-returns c = let w = c.turn in turn_coded_lem w.result _ _ _ _ c.turn_coded.ensures w.ensures
+returns c = let w = c.turn in turn_coded_lem _ w.result _ _ _ _ c.turn_coded.ensures w.ensures
 
 pub recorder_scheduler_turn_spec : {M : Type 1} → statement M
 recorder_scheduler_turn_spec = tie.close (tie.spec turn-requires turn_coded-requires shape_of-volume shape_of-scratch returns)

@@ -11,7 +11,7 @@ lane_coded-requires : tie.Need-lane_coded-requires
 lane_coded-requires c κs = search rules
 
 returns : tie.Need-returns
-returns c = let w = c.before.withdraw in lane_coded_lem w.result _ c.lane_coded.ensures _ _ _ w.ensures
+returns c = let w = c.before.withdraw in lane_coded_lem _ w.result _ c.lane_coded.ensures _ _ _ w.ensures
 
 pub recorder_scheduler_withdraw_spec : {M : Type 1} → statement M
 recorder_scheduler_withdraw_spec = tie.close (tie.spec withdraw-requires lane_coded-requires returns)

@@ -1,20 +1,22 @@
 -- Copying a block number by number, and several blocks.
 use mathlib.Core.Path.{◌≡◌, refl, sym, ◌∙◌, ap, subst}
-use mathlib.Core.Logic.{◌≢◌, ◌⊎◌, ⊎_elim}
+use mathlib.Core.Logic.{◌≢◌, ⊎_elim}
 use mathlib.Core.List.{List}
-use Prim.Native.Nat.{ℕ, ◌+◌, ◌*◌, ◌<◌, ◌≤◌}
+use Prim.Native.Nat.{ℕ, ◌+◌, ◌-◌, ◌*◌, ◌<◌, ◌≤◌}
 use native.Mathlib.Nat.{not-suc-le-zero}
 use native.Mathlib.Omega.{arith}
 use lib.ListN.{get_or, set, length, length-set}
 use lib.Seq.{get_or-set_same, get_or-set_other}
 use Rattle.numbers.proofs.Values.{pair_path}
-use Rattle.slices.proofs.Pairs.{eq_or_ne}
+use Rattle.slices.specs.Segments.{segment, set_segment}
+use Rattle.slices.proofs.Pairs.{eq_or_ne, lt_or_ge}
+use Rattle.slices.proofs.Segments.{length_segment, get_or_segment, length_set_segment, get_or_before, get_or_inside, get_d_after}
 use Rattle.slices.proofs.Rows.{row_end}
 use Rattle.algebra.proofs.ring.Laws.{along}
 use Rattle.numbers.specs.Value.{prime, Value, field}
 use Rattle.butterflies.specs.Equation3.{outer}
 use Rattle.butterflies.specs.declared.twiddle.Places.{Places}
-use Rattle.batches.specs.Lanes.{lane_at, UpTo, Good, Summed, turned_value}
+use Rattle.batches.specs.Lanes.{lane_at, Good, Summed, turned_value}
 use Rattle.batches.specs.Copying.{PutBlock, PutBlocks, PlacedSums}
 
 -- v numbers of block c are copied to block j
@@ -46,6 +48,35 @@ module _ {y : List ℕ} {c j : ℕ} {before : List ℕ} where
           (along (λ k. get_or d k 0) (32 * j + u + 16) (32 * j + (u + 16)) (omega arith) ∙ h.new (u + 16) (omega arith) ∙ along (λ k. get_or y k 0) (32 * c + (u + 16)) (32 * c + u + 16) (omega arith));
       kept = λ i u lu other. pair_path (h.kept (32 * i + u) (λ k lk e. other (omega arith))) (h.kept (32 * i + u + 16) (λ k lk e. other (omega arith)));
     }
+
+-- block c is the part that was copied
+pub copied : {y : List ℕ} (c j : ℕ) {before part : List ℕ} → 32 * c + 32 ≤ length y → 32 * j + 32 ≤ length before → part ≡ segment (32 * c) (32 * c + 32) y
+    → PutBlock y c j before (set_segment (32 * j) (32 * j + 32) before part)
+unfolding lane_at
+copied {y} c j {before} {part} from_fits fits is = record {
+  long = length_set_segment (32 * j) (32 * j + 32) before (omega arith) fits part long;
+  new = λ v lv. pair_path (number (32 * j + v) (32 * c + v) v (omega arith) refl refl) (number (32 * j + v + 16) (32 * c + v + 16) (v + 16) (omega arith) (omega arith) (omega arith));
+  kept = λ i v lv other. pair_path (outside (32 * i + v) (λ fits. other (omega arith))) (outside (32 * i + v + 16) (λ fits. other (omega arith)));
+}
+  where
+    after : List ℕ
+    after = set_segment (32 * j) (32 * j + 32) before part
+
+    long : length part ≡ 32 * j + 32 - 32 * j
+    long = ap length is ∙ length_segment (32 * c) (32 * c + 32) y (omega arith) from_fits ∙ omega arith
+
+    number : (k i v : ℕ) → v < 32 → k ≡ 32 * j + v → i ≡ 32 * c + v → get_or after k 0 ≡ get_or y i 0
+    number k i v lv ek ei = ap (λ n. get_or after n 0) ek
+        ∙ get_or_inside (32 * j) (32 * j + 32) before (omega arith) fits part long v (omega arith)
+        ∙ ap (λ l. get_or l v 0) is
+        ∙ get_or_segment (32 * c) (32 * c + 32) y (omega arith) from_fits v (omega arith)
+        ∙ ap (λ n. get_or y n 0) (sym ei)
+
+    outside : (k : ℕ) → ((32 * j ≤ k) × (k < 32 * j + 32) → ⊥) → get_or after k 0 ≡ get_or before k 0
+    outside k out = ⊎_elim
+        (get_or_before (32 * j) (32 * j + 32) before (omega arith) fits part k)
+        (λ from. get_d_after (32 * j) (32 * j + 32) before (omega arith) fits part long k (⊎_elim (λ below. absurd (out (from, below))) (λ past. past) (lt_or_ge k (32 * j + 32))))
+        (lt_or_ge k (32 * j))
 
 module _ {y : List ℕ} {base gap : ℕ} {before : List ℕ} where
   pub blocks_start : PutBlocks y base gap 0 before before

@@ -1,19 +1,17 @@
 -- The steps of a list over a batch: in each lane what plain's `Standing` says of one line, and the growth of the numbers.
 use mathlib.Core.Path.{◌≡◌, refl, sym, ◌∙◌, ap, subst}
 use mathlib.Core.Bool.{true}
-use mathlib.Core.Logic.{◌≢◌, ⊎_elim}
+use mathlib.Core.Logic.{◌≢◌}
 use mathlib.Core.List.{List}
 use Prim.Native.Nat.{ℕ, zero, suc, ◌+◌, ◌*◌, ◌/◌, ◌%◌, ◌≤◌, ◌<◌}
-use native.Mathlib.Nat.{mul-le-mul_left, mul-le-mul}
+use native.Mathlib.Nat.{mul-le-mul_left}
 use native.Mathlib.Omega.{arith}
 use lib.Dec.{lit<}
 use lib.ListN.{length, take}
-use Rattle.algebra.specs.ring.Ring.{Ops, pow, dft}
-use Rattle.algebra.proofs.ring.Laws.{along}
-use Rattle.numbers.specs.Value.{prime, IsModulus, Value, field, value_of}
+use Rattle.algebra.specs.ring.Ring.{pow}
+use Rattle.numbers.specs.Value.{prime, IsModulus, Value, field}
 use Rattle.numbers.proofs.Primes.{prime_most}
-use Rattle.slices.specs.Pairs.{at, fills}
-use Rattle.slices.proofs.Pairs.{fills_whole}
+use Rattle.roots.specs.Table.{table_root, RootTable}
 use Rattle.slices.proofs.Values.{length_of_lem, below_of}
 use Rattle.lengths.specs.declared.stage.Stage.{Stage}
 use Rattle.lengths.specs.Lengths.{product, factors_ok, octal_digits}
@@ -23,10 +21,11 @@ use Rattle.lengths.proofs.Factors.{few, factor_at_lem, product_take}
 use Rattle.lengths.proofs.stage.Divisors.{divisor_le}
 use Rattle.lengths.proofs.stage.Factoring.{next_length}
 use Rattle.lengths.proofs.stage.Listing.{digits_listed}
-use Rattle.plain.specs.Plain.{Splits, step_of, after_steps}
+use Rattle.plain.specs.Plain.{step_of, after_steps}
 use Rattle.plain.proofs.Stepping.{step_long}
-use Rattle.plain.proofs.Driving.{Lent, Standing, standing_start, standing_long, standing_last, standing_end, step_asks, standing_next}
-use Rattle.batches.specs.Lanes.{lane_at, line_in, UpTo, SteppedLanes}
+use Rattle.plain.proofs.Driving.{Lent, Standing, standing_start, standing_last, standing_end, step_asks, standing_next}
+use Rattle.batches.specs.Reduction.{ShiftedTable}
+use Rattle.batches.specs.Lanes.{line_in, UpTo, SteppedLanes}
 use Rattle.batches.specs.Transforms.{TransformedLanes}
 use Rattle.batches.proofs.LaneLaw.{lane_law}
 
@@ -41,6 +40,10 @@ pub record LentLanes (m : ℕ) (W : Value m) (factors n : ℕ) (line : List ℕ)
   pub cycle : pow (field m) W 2880 ≡ (field m).one
   pub long : length line ≡ 32 * n
   pub low : UpTo (8 * prime m) line
+
+pub lent_lanes : {m : ℕ} {re im sre sim line : List ℕ} {factors n : ℕ} → IsModulus m × RootTable m re im × ShiftedTable m re im sre sim → Factored factors n × (n * (2880 / n) ≡ 2880)
+    → length line ≡ 32 * n → UpTo (8 * prime m) line → LentLanes m (table_root m re im) factors n line
+lent_lanes modulus list long low = record { modulus = modulus.0; list = list.0; divides = list.1; cycle = modulus.1.cycle; long = long; low = low }
 
 -- A batch holds in each lane what the first k steps leave of its line, at their stage.
 pub record StandingLanes (m : ℕ) (W : Value m) (factors n : ℕ) (line : List ℕ) (k : ℕ) (s : Stage) (slice : List ℕ) : Type 0 where
@@ -121,14 +124,6 @@ pub record DrivingLanes (m : ℕ) (W : Value m) (factors n : ℕ) (s : Stage) (l
   pub place : ℕ
   pub stands : StandingLanes m W factors n line₀ place s line
   pub work_long : length work ≡ 32 * n
-
--- copied from the work slice
-pub lanes_copied : {m : ℕ} {W : Value m} {factors n : ℕ} {line₀ : List ℕ} (line : List ℕ) {work line' : List ℕ} → TransformedLanes m W factors n line₀ work → length line ≡ 32 * n → line' ≡ fills (at work) (16 * n) line
-    → TransformedLanes m W factors n line₀ line'
-lanes_copied {m} {W} {factors} {n} {line₀} line {work} h long is =
-    subst (TransformedLanes m W factors n line₀) (sym (is ∙ fills_whole (16 * n) work line (omega (arith, h.long)) (omega (arith, long)))) h
-
--- ---- the step of a stage
 
 module _ {s : Stage} (a : Ahead s) {s' : Stage} (e : s' ≡ after s) where
   lines_after : s.lines / (s.left % 8) ≡ s'.lines

@@ -6,13 +6,13 @@ use Prim.Native.Nat.{ℕ, suc, ◌+◌, ◌*◌, ◌-◌, ◌/◌, ◌%◌, ◌<
 use native.Mathlib.Nat.{mul-le-mul_left}
 use native.Mathlib.Omega.{arith}
 use lib.ListN.{length}
-use Rattle.algebra.specs.ring.Ring.{Ops, pow, dft}
+use Rattle.algebra.specs.ring.Ring.{pow, dft}
 use Rattle.algebra.proofs.ring.Laws.{along}
 use Rattle.numbers.specs.declared.Pair.{Pair}
 use Rattle.numbers.specs.Value.{prime, IsModulus, Value, Residue, field, real, value_of, pair_of}
 use Rattle.numbers.proofs.Primes.{prime_most}
 use Rattle.numbers.proofs.Values.{pair_value}
-use Rattle.slices.specs.Pairs.{at, values_of, list_of, tab}
+use Rattle.slices.specs.Pairs.{at, values_of, tab}
 use Rattle.slices.specs.Sweep.{Layout, sweep, Disjoint, on_lists}
 use Rattle.slices.proofs.Pairs.{lt_or_ge, ext_pairs, at_tab, tab_cong}
 use Rattle.slices.proofs.Values.{values_list}

@@ -5,14 +5,14 @@ use mathlib.Core.List.{List}
 use Prim.Native.Nat.{ℕ, zero, suc, ◌+◌, ◌*◌, ◌/◌, ◌%◌, ◌≤◌, ◌<◌}
 use native.Mathlib.Omega.{arith}
 use lib.ListN.{length}
-use Rattle.algebra.specs.ring.Ring.{Ops, pow, dft}
-use Rattle.numbers.specs.Value.{prime, Value, field, value_of}
+use Rattle.algebra.specs.ring.Ring.{pow, dft}
+use Rattle.numbers.specs.Value.{Value, field, value_of}
 use Rattle.numbers.proofs.Values.{field_ring}
-use Rattle.slices.specs.Pairs.{Below, values_of, list_of}
+use Rattle.slices.specs.Pairs.{values_of, list_of}
 use Rattle.slices.proofs.Values.{values_list, list_cong, length_of_lem, below_of}
 use Rattle.slices.proofs.Rows.{row_end, row_split}
 use Rattle.lengths.specs.Lengths.{product, factors_ok}
-use Rattle.butterflies.specs.Equation3.{factor, outer}
+use Rattle.butterflies.specs.Equation3.{factor}
 use Rattle.butterflies.proofs.Equation3.{direct_dft}
 use Rattle.butterflies.proofs.radix.Spreading.{outer_cong}
 use Rattle.plain.specs.Plain.{inner_sums, stepped, step_of, StepParts, Splits, inner_length, outer_length, line_count, after_steps}

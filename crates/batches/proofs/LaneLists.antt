@@ -1,14 +1,15 @@
 -- Lanes in a list: what is stored in one is read there, and every other is as it was.
 use mathlib.Core.Path.{◌≡◌, refl, sym, ◌∙◌, ap, ap₂, subst}
 use mathlib.Core.Logic.{◌≢◌, ⊎_elim}
+use mathlib.Core.Bool.{Bool, true, false}
 use mathlib.Core.List.{List}
+use Rattle.std.specs.Prelude.{IsTrue, IsFalse}
 use Prim.Native.Nat.{ℕ, zero, suc, ◌+◌, ◌*◌, ◌<◌, ◌≤◌}
 use native.Mathlib.Nat.{not-suc-le-zero}
-use native.Mathlib.Numerals.{add-one}
 use native.Mathlib.Omega.{arith}
 use lib.ListN.{get_or, set, length, length-set}
 use lib.Seq.{get_or-set_same, get_or-set_other}
-use Rattle.algebra.specs.ring.Ring.{Ops, pow}
+use Rattle.algebra.specs.ring.Ring.{pow}
 use Rattle.algebra.proofs.ring.Laws.{along}
 use Rattle.algebra.proofs.fourier.Transform.{pow_zero}
 use Rattle.numbers.specs.declared.Pair.{Pair}
@@ -25,7 +26,7 @@ use Rattle.batches.proofs.Meaning.{turned_value_lem, shifted_power, shifted_at, 
 use Rattle.batches.specs.declared.lane.Three.{Three}
 use Rattle.batches.specs.declared.lane.Five.{Five}
 use Rattle.batches.specs.Formulas.{ThreeOf, FiveOf}
-use Rattle.batches.specs.Lanes.{lane_at, put_lane, spread_lane, UpTo, Good, Summed, turned_value}
+use Rattle.batches.specs.Lanes.{lane_at, put_lane, spread_lane, UpTo, Good, Apart, FirstStep, Summed, turned_value}
 
 pub length_lane : (l : List ℕ) (j v : ℕ) (x : Pair) → length (put_lane l j v x) ≡ length l
 unfolding put_lane
@@ -129,6 +130,19 @@ turned_lane {m} {re} {im} {sre} {sim} h t p l v b k {w} e lt is hx hy =
     turned_value_lem m (lane_at l (b * p.stride + p.first) v).re (lane_at l (b * p.stride + p.first) v).im
     (subst (λ w. Shifted m w (pow (field m) (table_root m re im) k)) (sym is) (shifted_power t k h lt)) hx hy
     ∙ ap (λ n. (field m).mul (pow (field m) (table_root m re im) n) (value_of m (lane_at l (b * p.stride + p.first) v))) e
+
+-- a value with its factor, or in the first step without
+pub lane_value : (first : Bool) {m : ℕ} {re im sre sim : List ℕ} (h : RootTable m re im) (t : ShiftedTable m re im sre sim) {B : ℕ} {p : Places} {l : List ℕ} (near : Apart B p l) (v b : ℕ) {k : ℕ} {w : Factor} {x y : ℕ}
+    → (IsTrue first → FirstStep m p l) → b < B → k ≡ b * p.k → w ≡ factor_at m sre sim k
+    → (IsTrue first → x ≡ (lane_at l (b * p.stride + p.first) v).re)
+    → (IsFalse first → Divided m (w.re * (lane_at l (b * p.stride + p.first) v).re + w.minus * (lane_at l (b * p.stride + p.first) v).im) x)
+    → (IsTrue first → y ≡ (lane_at l (b * p.stride + p.first) v).im)
+    → (IsFalse first → Divided m (w.re * (lane_at l (b * p.stride + p.first) v).im + w.im * (lane_at l (b * p.stride + p.first) v).re) y)
+    → value m x y ≡ turned_value m (table_root m re im) p l v b
+unfolding value_of
+lane_value true {m} h t {p = p} near v b start lb e is x_is x_turned y_is y_turned =
+    ap₂ (value m) (x_is refl) (y_is refl) ∙ one_turn m _ (b * p.k) _ (rw (start refl).none (omega arith))
+lane_value false h t {p = p} {l = l} near v b start lb e is x_is x_turned y_is y_turned = turned_lane h t p l v b _ e (omega (arith, near.exponents b lb)) is (x_turned refl) (y_turned refl)
 
 pub held_by : {m : ℕ} {re im sre sim : List ℕ} (t : ShiftedTable m re im sre sim) (k : ℕ) {w : Factor} → w ≡ factor_at m sre sim k → Held m w
 held_by {m} t k e = subst (Held m) (sym e) (held_at t k)

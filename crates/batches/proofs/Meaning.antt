@@ -2,12 +2,12 @@
 use mathlib.Core.Path.{◌≡◌, refl, sym, ◌∙◌, ap, ap₂, subst}
 use mathlib.Core.Bool.{Bool, true, false, cond}
 use mathlib.Core.List.{List, [], ◌∷◌}
-use Prim.Native.Nat.{ℕ, zero, suc, ◌+◌, ◌*◌, ◌-◌, ◌%◌, ◌<◌, ◌≤◌}
+use Prim.Native.Nat.{ℕ, ◌+◌, ◌*◌, ◌-◌, ◌%◌, ◌<◌, ◌≤◌}
 use native.Mathlib.Nat as N
 use native.Mathlib.Omega.{arith}
-use lib.Dec.{eqb, lit<}
+use lib.Dec.{eqb}
 use lib.ListN.{get_or}
-use Rattle.algebra.specs.ring.Ring.{pow, residue, residues, gauss, imag}
+use Rattle.algebra.specs.ring.Ring.{pow, residue, residues, gauss}
 use Rattle.algebra.proofs.ring.Laws.{along, mul_neg, neg_unique}
 use Rattle.algebra.proofs.ring.Solver.{ring, quote}
 use Rattle.algebra.proofs.ring.ResidueRing.{val_path, residue_add, residue_mul, residue_neg}
@@ -15,9 +15,8 @@ use Rattle.numbers.specs.declared.Pair.{Pair}
 use Rattle.numbers.specs.Value.{prime, IsModulus, Value, Residue, field, i, value, real, value_of, pair_of}
 use Rattle.numbers.specs.Value as Value
 use Rattle.numbers.specs.Bounds.{res}
-use Rattle.numbers.proofs.Primes.{by_choice, prime_pos}
 use Rattle.numbers.proofs.Residues.{res_ring, res_val}
-use Rattle.numbers.proofs.Values.{value_path, value_pair, value_add, i_times, real_times, field_ring}
+use Rattle.numbers.proofs.Values.{value_path, i_times, real_times}
 use Rattle.roots.specs.Table.{entry_at, table_root, RootTable}
 use Rattle.batches.specs.declared.lane.Factor.{Factor}
 use Rattle.batches.specs.Reduction.{Divided, Held, Holds, Shifted, ShiftedTable, Zero, factor_at}

@@ -6,12 +6,12 @@ use Prim.Native.Nat.{ℕ, ◌+◌, ◌-◌, ◌*◌, ◌/◌, ◌%◌, ◌≤◌
 use native.Mathlib.Nat.{mul-le-mul_left, mul-le-mul_right, div-le_self}
 use native.Mathlib.Omega.{arith}
 use lib.ListN.{length, get_or, get_or-eq_default}
-use Rattle.algebra.specs.ring.Ring.{Ops, pow}
+use Rattle.algebra.specs.ring.Ring.{pow}
 use Rattle.algebra.proofs.ring.Laws.{along}
 use Rattle.numbers.specs.Value.{prime, Value, field, value_of}
 use Rattle.numbers.proofs.Values.{field_ring}
 use Rattle.slices.proofs.Pairs.{lt_or_ge, eq_or_ne}
-use Rattle.slices.proofs.Rows.{row_end, rows_wide, row_inj, row_split, block_inj, block_end}
+use Rattle.slices.proofs.Rows.{row_end, rows_wide, row_inj, row_split, block_inj}
 use Rattle.butterflies.specs.Equation3.{e, factor, outer}
 use Rattle.butterflies.specs.declared.twiddle.Places.{Places}
 use Rattle.butterflies.proofs.radix.Spreading.{outer_cong}

@@ -2,10 +2,9 @@
 use mathlib.Core.Path.{◌≡◌, refl, sym, ◌∙◌, ap, ap₂}
 use mathlib.Core.Bool.{Bool, true, false, cond}
 use mathlib.Core.List.{List, [], ◌∷◌}
-use Prim.Native.Nat.{ℕ, zero, suc, ◌+◌, ◌*◌, ◌-◌, ◌<◌, ◌≤◌}
+use Prim.Native.Nat.{ℕ, ◌+◌, ◌*◌, ◌-◌, ◌<◌, ◌≤◌}
 use native.Mathlib.Omega.{arith}
 use lib.Dec.{lit<}
-use lib.ListN.{get_or}
 use Rattle.algebra.specs.ring.Ring.{pow}
 use Rattle.algebra.proofs.ring.Solver.{ring, quote}
 use Rattle.numbers.specs.declared.Pair.{Pair}
@@ -24,7 +23,7 @@ use Rattle.batches.specs.declared.lane.Factor.{Factor}
 use Rattle.batches.specs.declared.lane.Three.{Three}
 use Rattle.batches.specs.declared.lane.Four.{Four}
 use Rattle.batches.specs.declared.lane.Five.{Five}
-use Rattle.batches.specs.Reduction.{Divided, Holds, Shifted, Zero}
+use Rattle.batches.specs.Reduction.{Shifted, Zero}
 use Rattle.batches.specs.Formulas.{ThreeOf, FourOf, FiveOf}
 use Rattle.batches.specs.Lanes.{Good, two_pairs, three_pairs, four_pairs, five_pairs}
 use Rattle.batches.proofs.Meaning.{apart_value, times_i_value, scaled_value, weighed_value}

@@ -1,6 +1,6 @@
 -- Lines of a volume into the lanes of a batch and back, and a group of up to sixteen neighbouring lines.
 use Rattle.std.specs.Prelude.{◌≡◌, ◌≢◌, cond, List, ℕ, ◌+◌, ◌*◌, ◌/◌, ◌<◌, ◌≤◌, ltb, get_or, length}
-use Rattle.algebra.specs.ring.Ring.{Ops, pow, dft}
+use Rattle.algebra.specs.ring.Ring.{pow, dft}
 use Rattle.numbers.specs.declared.Pair.{Pair}
 use Rattle.numbers.specs.Value.{prime, Value, Residue, ring, field, real, value_of, pair_of}
 use Rattle.numbers.specs.Bounds.{res, zero_pair, Small}

@@ -2,7 +2,7 @@
 -- Lane v, the line number v of the batch, has the numbers v and 16 + v. They are not reduced whole: each stands for
 -- its residue.
 use Rattle.std.specs.Prelude.{◌≡◌, List, ℕ, zero, suc, ◌+◌, ◌*◌, ◌-◌, ◌<◌, ◌≤◌, get_or, set, length}
-use Rattle.algebra.specs.ring.Ring.{Ops, pow}
+use Rattle.algebra.specs.ring.Ring.{pow}
 use Rattle.numbers.specs.declared.Pair.{Pair}
 use Rattle.numbers.specs.Value.{prime, Value, field, value_of}
 use Rattle.slices.specs.Pairs.{list_of}

@@ -1,6 +1,5 @@
 -- A number divided by 2^32 modulo the prime, and a factor that is held times 2^32.
 use Rattle.std.specs.Prelude.{◌≡◌, cond, ℕ, ◌+◌, ◌*◌, ◌-◌, ◌<◌, ◌≤◌, List, eqb, get_or, length}
-use Rattle.algebra.specs.ring.Ring.{Ops}
 use Rattle.numbers.specs.Value.{prime, Value, Residue, ring}
 use Rattle.numbers.specs.Bounds.{res}
 use Rattle.batches.specs.declared.lane.Factor.{Factor}

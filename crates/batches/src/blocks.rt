@@ -3,8 +3,8 @@
 // copies to its places. A local array, so that the compiler knows that nothing is read from where it is written; and
 // a loop of sixteen turns, which it does several at a time.
 //
-// In the first step all factors are 1, and nothing is multiplied.
-ghost use Rattle.std.specs.Prelude.{◌≡◌, get_or, length, ◌+◌, ◌*◌, ◌<◌, ◌≤◌};
+// In the first step all factors are 1, and nothing is multiplied: FIRST says so, known when the loop is compiled.
+ghost use Rattle.std.specs.Prelude.{◌≡◌, IsTrue, IsFalse, get_or, length, ◌+◌, ◌*◌, ◌<◌, ◌≤◌};
 ghost use Rattle.numbers.specs.Value.{prime, IsModulus};
 ghost use Rattle.roots.specs.Table.{table_root, RootTable};
 ghost use Rattle.batches.specs.Reduction.{Divided, Held, ShiftedTable, factor_at};
@@ -24,27 +24,60 @@ fn part(at: Places, from: &[u32], b: usize, v: usize) -> u32
     from[k]
 }
 
-// The real part of the value for b in lane v times its factor.
-fn turned_re(m: u32, w: Factor, at: Places, from: &[u32], b: usize, v: usize) -> u32
-    requires { IsModulus m × Held m w × (b < 5) × (v < 16)
+// The real part of the value for b in lane v, times its factor.
+#[tactic(auto, unfolding(crate::specs::Lanes::lane_at))]
+fn turned_re<const FIRST: bool>(
+    m: u32,
+    w: Factor,
+    at: Places,
+    from: &[u32],
+    b: usize,
+    v: usize,
+) -> u32
+    requires modulus { IsModulus m × Held m w × (b < 5) × (v < 16)
         × (32 * (b * at.stride + at.first) + 32 ≤ length from.now) × UpTo 1073741823 from.now }
-    ensures { Divided m (w.re * (lane_at from.now (b * at.stride + at.first) v).re
+    requires first { IsTrue FIRST → UpTo (8 * prime m) from.now }
+    ensures low { result ≤ 8 * prime m }
+    ensures plain { IsTrue FIRST → result ≡ (lane_at from.now (b * at.stride + at.first) v).re }
+    ensures turned { IsFalse FIRST → Divided m (w.re * (lane_at from.now (b * at.stride + at.first) v).re
         + w.minus * (lane_at from.now (b * at.stride + at.first) v).im) result }
 {
-    crate::lane::turned_re(m, w, part(at, from, b, v), part(at, from, b, v + 16))
+    let x = part(at, from, b, v);
+    if FIRST {
+        x
+    } else {
+        crate::lane::turned_re(m, w, x, part(at, from, b, v + 16))
+    }
 }
 
 // Its imaginary part.
-fn turned_im(m: u32, w: Factor, at: Places, from: &[u32], b: usize, v: usize) -> u32
-    requires { IsModulus m × Held m w × (b < 5) × (v < 16)
+#[tactic(auto, unfolding(crate::specs::Lanes::lane_at))]
+fn turned_im<const FIRST: bool>(
+    m: u32,
+    w: Factor,
+    at: Places,
+    from: &[u32],
+    b: usize,
+    v: usize,
+) -> u32
+    requires modulus { IsModulus m × Held m w × (b < 5) × (v < 16)
         × (32 * (b * at.stride + at.first) + 32 ≤ length from.now) × UpTo 1073741823 from.now }
-    ensures { Divided m (w.re * (lane_at from.now (b * at.stride + at.first) v).im
+    requires first { IsTrue FIRST → UpTo (8 * prime m) from.now }
+    ensures low { result ≤ 8 * prime m }
+    ensures plain { IsTrue FIRST → result ≡ (lane_at from.now (b * at.stride + at.first) v).im }
+    ensures turned { IsFalse FIRST → Divided m (w.re * (lane_at from.now (b * at.stride + at.first) v).im
         + w.im * (lane_at from.now (b * at.stride + at.first) v).re) result }
 {
-    crate::lane::turned_im(m, w, part(at, from, b, v), part(at, from, b, v + 16))
+    let y = part(at, from, b, v + 16);
+    if FIRST {
+        y
+    } else {
+        crate::lane::turned_im(m, w, part(at, from, b, v), y)
+    }
 }
 
 // The pair a + b i goes to lane v of block c.
+#[tactic(auto, unfolding(crate::specs::Lanes::put_lane))]
 fn store_lane(y: &mut [u32; 160], c: usize, v: usize, a: u32, b: u32)
     requires { (c < 5) × (v < 16) }
     ensures { y.new ≡ put_lane y.old c v (record { re = a; im = b }) }
@@ -55,7 +88,7 @@ fn store_lane(y: &mut [u32; 160], c: usize, v: usize, a: u32, b: u32)
 }
 
 // Radix 2.
-pub fn two_turned<'a>(
+pub fn two<'a, const FIRST: bool>(
     m: u32,
     re: &'a [u32; 2880],
     im: &'a [u32; 2880],
@@ -69,66 +102,29 @@ pub fn two_turned<'a>(
         × RootTable m re.now im.now
         × ShiftedTable m re.now im.now sre.now sim.now }
     requires apart { Apart 2 at from.now × UpTo 1073741823 from.now × (length y.old ≡ 160) }
+    requires first { IsTrue FIRST → FirstStep m at from.now }
     ensures { Summed m (table_root m re.now im.now) 2 at from.now 16
         y.new }
 {
     let k = at.k;
     let w1 = crate::lane::factor_at(m, sre, sim, k);
     let o = 8 * numbers::modulus(m);
-    let mut v = 0;
-    while v < 16 {
+    for v in 0..16 {
         let r0 = part(at, from, 0, v);
         let s0 = part(at, from, 0, v + 16);
-        let r1 = turned_re(m, w1, at, from, 1, v);
-        let s1 = turned_im(m, w1, at, from, 1, v);
+        let r1 = turned_re::<FIRST>(m, w1, at, from, 1, v);
+        let s1 = turned_im::<FIRST>(m, w1, at, from, 1, v);
         let a = crate::lane::sum(r0, r1);
         let b = crate::lane::sum(s0, s1);
         let c = crate::lane::apart(o, r0, r1);
         let d = crate::lane::apart(o, s0, s1);
         store_lane(y, 0, v, a, b);
         store_lane(y, 1, v, c, d);
-        v += 1;
-    }
-}
-
-// Radix 2, in the first step.
-pub fn two_first<'a>(
-    m: u32,
-    re: &'a [u32; 2880],
-    im: &'a [u32; 2880],
-    sre: &'a [u32; 2880],
-    sim: &'a [u32; 2880],
-    at: Places,
-    from: &[u32],
-    y: &mut [u32; 160],
-)
-    requires modulus { IsModulus m
-        × RootTable m re.now im.now
-        × ShiftedTable m re.now im.now sre.now sim.now }
-    requires apart { Apart 2 at from.now × UpTo 1073741823 from.now × (length y.old ≡ 160)
-        × FirstStep m at from.now }
-    ensures { Summed m (table_root m re.now im.now) 2 at from.now 16
-        y.new }
-{
-    let o = 8 * numbers::modulus(m);
-    let mut v = 0;
-    while v < 16 {
-        let r0 = part(at, from, 0, v);
-        let s0 = part(at, from, 0, v + 16);
-        let r1 = part(at, from, 1, v);
-        let s1 = part(at, from, 1, v + 16);
-        let a = crate::lane::sum(r0, r1);
-        let b = crate::lane::sum(s0, s1);
-        let c = crate::lane::apart(o, r0, r1);
-        let d = crate::lane::apart(o, s0, s1);
-        store_lane(y, 0, v, a, b);
-        store_lane(y, 1, v, c, d);
-        v += 1;
     }
 }
 
 // Radix 3.
-pub fn three_turned<'a>(
+pub fn three<'a, const FIRST: bool>(
     m: u32,
     re: &'a [u32; 2880],
     im: &'a [u32; 2880],
@@ -142,6 +138,7 @@ pub fn three_turned<'a>(
         × RootTable m re.now im.now
         × ShiftedTable m re.now im.now sre.now sim.now }
     requires apart { Apart 3 at from.now × UpTo 1073741823 from.now × (length y.old ≡ 160) }
+    requires first { IsTrue FIRST → FirstStep m at from.now }
     ensures { Summed m (table_root m re.now im.now) 3 at from.now 16
         y.new }
 {
@@ -150,14 +147,13 @@ pub fn three_turned<'a>(
     let w2 = crate::lane::factor_at(m, sre, sim, 2 * k);
     let z = crate::lane::factor_at(m, sre, sim, 960);
     let o = 8 * numbers::modulus(m);
-    let mut v = 0;
-    while v < 16 {
+    for v in 0..16 {
         let r0 = part(at, from, 0, v);
         let s0 = part(at, from, 0, v + 16);
-        let r1 = turned_re(m, w1, at, from, 1, v);
-        let s1 = turned_im(m, w1, at, from, 1, v);
-        let r2 = turned_re(m, w2, at, from, 2, v);
-        let s2 = turned_im(m, w2, at, from, 2, v);
+        let r1 = turned_re::<FIRST>(m, w1, at, from, 1, v);
+        let s1 = turned_im::<FIRST>(m, w1, at, from, 1, v);
+        let r2 = turned_re::<FIRST>(m, w2, at, from, 2, v);
+        let s2 = turned_im::<FIRST>(m, w2, at, from, 2, v);
         let g = crate::lane::apart(o, s2, s1);
         let h = crate::lane::apart(o, r1, r2);
         let p = crate::lane::of_three(m, z, o, r0, r1, r2, g);
@@ -165,52 +161,11 @@ pub fn three_turned<'a>(
         store_lane(y, 0, v, p.x0, q.x0);
         store_lane(y, 1, v, p.x1, q.x1);
         store_lane(y, 2, v, p.x2, q.x2);
-        v += 1;
-    }
-}
-
-// Radix 3, in the first step.
-pub fn three_first<'a>(
-    m: u32,
-    re: &'a [u32; 2880],
-    im: &'a [u32; 2880],
-    sre: &'a [u32; 2880],
-    sim: &'a [u32; 2880],
-    at: Places,
-    from: &[u32],
-    y: &mut [u32; 160],
-)
-    requires modulus { IsModulus m
-        × RootTable m re.now im.now
-        × ShiftedTable m re.now im.now sre.now sim.now }
-    requires apart { Apart 3 at from.now × UpTo 1073741823 from.now × (length y.old ≡ 160)
-        × FirstStep m at from.now }
-    ensures { Summed m (table_root m re.now im.now) 3 at from.now 16
-        y.new }
-{
-    let z = crate::lane::factor_at(m, sre, sim, 960);
-    let o = 8 * numbers::modulus(m);
-    let mut v = 0;
-    while v < 16 {
-        let r0 = part(at, from, 0, v);
-        let s0 = part(at, from, 0, v + 16);
-        let r1 = part(at, from, 1, v);
-        let s1 = part(at, from, 1, v + 16);
-        let r2 = part(at, from, 2, v);
-        let s2 = part(at, from, 2, v + 16);
-        let g = crate::lane::apart(o, s2, s1);
-        let h = crate::lane::apart(o, r1, r2);
-        let p = crate::lane::of_three(m, z, o, r0, r1, r2, g);
-        let q = crate::lane::of_three(m, z, o, s0, s1, s2, h);
-        store_lane(y, 0, v, p.x0, q.x0);
-        store_lane(y, 1, v, p.x1, q.x1);
-        store_lane(y, 2, v, p.x2, q.x2);
-        v += 1;
     }
 }
 
 // Radix 4.
-pub fn four_turned<'a>(
+pub fn four<'a, const FIRST: bool>(
     m: u32,
     re: &'a [u32; 2880],
     im: &'a [u32; 2880],
@@ -224,6 +179,7 @@ pub fn four_turned<'a>(
         × RootTable m re.now im.now
         × ShiftedTable m re.now im.now sre.now sim.now }
     requires apart { Apart 4 at from.now × UpTo 1073741823 from.now × (length y.old ≡ 160) }
+    requires first { IsTrue FIRST → FirstStep m at from.now }
     ensures { Summed m (table_root m re.now im.now) 4 at from.now 16
         y.new }
 {
@@ -233,69 +189,26 @@ pub fn four_turned<'a>(
     let w3 = crate::lane::factor_at(m, sre, sim, 3 * k);
     let o = 8 * numbers::modulus(m);
     let up = roots::root_at(re, im, 720).im == 1;
-    let mut v = 0;
-    while v < 16 {
+    for v in 0..16 {
         let r0 = part(at, from, 0, v);
         let s0 = part(at, from, 0, v + 16);
-        let r1 = turned_re(m, w1, at, from, 1, v);
-        let s1 = turned_im(m, w1, at, from, 1, v);
-        let r2 = turned_re(m, w2, at, from, 2, v);
-        let s2 = turned_im(m, w2, at, from, 2, v);
-        let r3 = turned_re(m, w3, at, from, 3, v);
-        let s3 = turned_im(m, w3, at, from, 3, v);
+        let r1 = turned_re::<FIRST>(m, w1, at, from, 1, v);
+        let s1 = turned_im::<FIRST>(m, w1, at, from, 1, v);
+        let r2 = turned_re::<FIRST>(m, w2, at, from, 2, v);
+        let s2 = turned_im::<FIRST>(m, w2, at, from, 2, v);
+        let r3 = turned_re::<FIRST>(m, w3, at, from, 3, v);
+        let s3 = turned_im::<FIRST>(m, w3, at, from, 3, v);
         let p = crate::lane::of_four(o, r0, r1, r2, r3, crate::lane::quarter(o, up, s3, s1));
         let q = crate::lane::of_four(o, s0, s1, s2, s3, crate::lane::quarter(o, up, r1, r3));
         store_lane(y, 0, v, p.x0, q.x0);
         store_lane(y, 1, v, p.x1, q.x1);
         store_lane(y, 2, v, p.x2, q.x2);
         store_lane(y, 3, v, p.x3, q.x3);
-        v += 1;
-    }
-}
-
-// Radix 4, in the first step.
-pub fn four_first<'a>(
-    m: u32,
-    re: &'a [u32; 2880],
-    im: &'a [u32; 2880],
-    sre: &'a [u32; 2880],
-    sim: &'a [u32; 2880],
-    at: Places,
-    from: &[u32],
-    y: &mut [u32; 160],
-)
-    requires modulus { IsModulus m
-        × RootTable m re.now im.now
-        × ShiftedTable m re.now im.now sre.now sim.now }
-    requires apart { Apart 4 at from.now × UpTo 1073741823 from.now × (length y.old ≡ 160)
-        × FirstStep m at from.now }
-    ensures { Summed m (table_root m re.now im.now) 4 at from.now 16
-        y.new }
-{
-    let o = 8 * numbers::modulus(m);
-    let up = roots::root_at(re, im, 720).im == 1;
-    let mut v = 0;
-    while v < 16 {
-        let r0 = part(at, from, 0, v);
-        let s0 = part(at, from, 0, v + 16);
-        let r1 = part(at, from, 1, v);
-        let s1 = part(at, from, 1, v + 16);
-        let r2 = part(at, from, 2, v);
-        let s2 = part(at, from, 2, v + 16);
-        let r3 = part(at, from, 3, v);
-        let s3 = part(at, from, 3, v + 16);
-        let p = crate::lane::of_four(o, r0, r1, r2, r3, crate::lane::quarter(o, up, s3, s1));
-        let q = crate::lane::of_four(o, s0, s1, s2, s3, crate::lane::quarter(o, up, r1, r3));
-        store_lane(y, 0, v, p.x0, q.x0);
-        store_lane(y, 1, v, p.x1, q.x1);
-        store_lane(y, 2, v, p.x2, q.x2);
-        store_lane(y, 3, v, p.x3, q.x3);
-        v += 1;
     }
 }
 
 // Radix 5.
-pub fn five_turned<'a>(
+pub fn five<'a, const FIRST: bool>(
     m: u32,
     re: &'a [u32; 2880],
     im: &'a [u32; 2880],
@@ -309,6 +222,7 @@ pub fn five_turned<'a>(
         × RootTable m re.now im.now
         × ShiftedTable m re.now im.now sre.now sim.now }
     requires apart { Apart 5 at from.now × UpTo 1073741823 from.now × (length y.old ≡ 160) }
+    requires first { IsTrue FIRST → FirstStep m at from.now }
     ensures { Summed m (table_root m re.now im.now) 5 at from.now 16
         y.new }
 {
@@ -320,18 +234,17 @@ pub fn five_turned<'a>(
     let w = crate::lane::factor_at(m, sre, sim, 576);
     let z = crate::lane::factor_at(m, sre, sim, 1152);
     let o = 8 * numbers::modulus(m);
-    let mut v = 0;
-    while v < 16 {
+    for v in 0..16 {
         let r0 = part(at, from, 0, v);
         let s0 = part(at, from, 0, v + 16);
-        let r1 = turned_re(m, w1, at, from, 1, v);
-        let s1 = turned_im(m, w1, at, from, 1, v);
-        let r2 = turned_re(m, w2, at, from, 2, v);
-        let s2 = turned_im(m, w2, at, from, 2, v);
-        let r3 = turned_re(m, w3, at, from, 3, v);
-        let s3 = turned_im(m, w3, at, from, 3, v);
-        let r4 = turned_re(m, w4, at, from, 4, v);
-        let s4 = turned_im(m, w4, at, from, 4, v);
+        let r1 = turned_re::<FIRST>(m, w1, at, from, 1, v);
+        let s1 = turned_im::<FIRST>(m, w1, at, from, 1, v);
+        let r2 = turned_re::<FIRST>(m, w2, at, from, 2, v);
+        let s2 = turned_im::<FIRST>(m, w2, at, from, 2, v);
+        let r3 = turned_re::<FIRST>(m, w3, at, from, 3, v);
+        let s3 = turned_im::<FIRST>(m, w3, at, from, 3, v);
+        let r4 = turned_re::<FIRST>(m, w4, at, from, 4, v);
+        let s4 = turned_im::<FIRST>(m, w4, at, from, 4, v);
         let g = crate::lane::apart(o, s4, s1);
         let h = crate::lane::apart(o, r1, r4);
         let i = crate::lane::apart(o, s3, s2);
@@ -343,55 +256,5 @@ pub fn five_turned<'a>(
         store_lane(y, 2, v, p.x2, q.x2);
         store_lane(y, 3, v, p.x3, q.x3);
         store_lane(y, 4, v, p.x4, q.x4);
-        v += 1;
-    }
-}
-
-// Radix 5, in the first step.
-pub fn five_first<'a>(
-    m: u32,
-    re: &'a [u32; 2880],
-    im: &'a [u32; 2880],
-    sre: &'a [u32; 2880],
-    sim: &'a [u32; 2880],
-    at: Places,
-    from: &[u32],
-    y: &mut [u32; 160],
-)
-    requires modulus { IsModulus m
-        × RootTable m re.now im.now
-        × ShiftedTable m re.now im.now sre.now sim.now }
-    requires apart { Apart 5 at from.now × UpTo 1073741823 from.now × (length y.old ≡ 160)
-        × FirstStep m at from.now }
-    ensures { Summed m (table_root m re.now im.now) 5 at from.now 16
-        y.new }
-{
-    let w = crate::lane::factor_at(m, sre, sim, 576);
-    let z = crate::lane::factor_at(m, sre, sim, 1152);
-    let o = 8 * numbers::modulus(m);
-    let mut v = 0;
-    while v < 16 {
-        let r0 = part(at, from, 0, v);
-        let s0 = part(at, from, 0, v + 16);
-        let r1 = part(at, from, 1, v);
-        let s1 = part(at, from, 1, v + 16);
-        let r2 = part(at, from, 2, v);
-        let s2 = part(at, from, 2, v + 16);
-        let r3 = part(at, from, 3, v);
-        let s3 = part(at, from, 3, v + 16);
-        let r4 = part(at, from, 4, v);
-        let s4 = part(at, from, 4, v + 16);
-        let g = crate::lane::apart(o, s4, s1);
-        let h = crate::lane::apart(o, r1, r4);
-        let i = crate::lane::apart(o, s3, s2);
-        let j = crate::lane::apart(o, r2, r3);
-        let p = crate::lane::of_five(m, w, z, o, r0, r1, r2, r3, r4, g, i);
-        let q = crate::lane::of_five(m, w, z, o, s0, s1, s2, s3, s4, h, j);
-        store_lane(y, 0, v, p.x0, q.x0);
-        store_lane(y, 1, v, p.x1, q.x1);
-        store_lane(y, 2, v, p.x2, q.x2);
-        store_lane(y, 3, v, p.x3, q.x3);
-        store_lane(y, 4, v, p.x4, q.x4);
-        v += 1;
     }
 }

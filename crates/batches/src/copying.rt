@@ -9,11 +9,7 @@ pub fn put_block(y: &[u32; 160], c: usize, to: &mut [u32], j: usize)
 {
     let first = 32 * c;
     let place = 32 * j;
-    let mut v = 0;
-    while v < 32 {
-        to[place + v] = y[first + v];
-        v += 1;
-    }
+    to[place..place + 32].copy_from_slice(&y[first..first + 32]);
 }
 
 // The first blocks of y go to the places base, base + gap, ..
@@ -21,9 +17,7 @@ pub fn put_blocks(y: &[u32; 160], count: usize, to: &mut [u32], base: usize, gap
     requires { (count ≤ 5) × (0 < gap) × (32 * (base + count * gap) + 32 ≤ length to.old + 32 * gap) }
     ensures { PutBlocks y.now base gap count to.old to.new }
 {
-    let mut c = 0;
-    while c < count {
+    for c in 0..count {
         put_block(y, c, to, base + c * gap);
-        c += 1;
     }
 }

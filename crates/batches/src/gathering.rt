@@ -14,10 +14,8 @@ pub fn gather(volume: &[u32], start: usize, stride: usize, lanes: usize, n: usiz
         × (length d.old ≡ 32 * n) }
     ensures { Gathered volume.now start stride lanes n d.new }
 {
-    let mut j = 0;
-    while j < n {
+    for j in 0..n {
         gather_place(volume, start + j * stride, lanes, d, j);
-        j += 1;
     }
 }
 
@@ -29,19 +27,17 @@ fn gather_place(volume: &[u32], first: usize, lanes: usize, d: &mut [u32], j: us
     ensures { PutLanes (lane_pair volume.now first lanes) j 16 d.old
         d.new }
 {
-    let mut v = 0;
-    while v < lanes {
+    for v in 0..lanes {
         let x = slices::get(volume, first + v);
         store_lane(d, j, v, x.re, x.im);
-        v += 1;
     }
-    while v < 16 {
+    for v in lanes..16 {
         store_lane(d, j, v, 0, 0);
-        v += 1;
     }
 }
 
 // The pair a + b i goes to lane v of place j.
+#[tactic(auto, unfolding(crate::specs::Lanes::put_lane))]
 pub fn store_lane(d: &mut [u32], j: usize, v: usize, a: u32, b: u32)
     requires { (v < 16) × (32 * j + 32 ≤ length d.old) }
     ensures { d.new ≡ put_lane d.old j v (record { re = a; im = b }) }
@@ -70,11 +66,9 @@ pub fn scatter(
         volume.new }
 {
     let mut y = [0u32; 32];
-    let mut j = 0;
-    while j < n {
+    for j in 0..n {
         reduce_place(m, c, s, j, &mut y);
         put_place(&y, lanes, volume, start + j * stride);
-        j += 1;
     }
 }
 
@@ -85,10 +79,8 @@ pub fn reduce_place(m: u32, c: u32, s: &[u32], j: usize, y: &mut [u32; 32])
     ensures { ReducedPlace m c s.now j 32 y.new }
 {
     let first = 32 * j;
-    let mut u = 0;
-    while u < 32 {
+    for u in 0..32 {
         y[u] = crate::residues::residue(m, c, s[first + u]);
-        u += 1;
     }
 }
 
@@ -97,13 +89,11 @@ fn put_place(y: &[u32; 32], lanes: usize, volume: &mut [u32], first: usize)
     ensures { volume.new
         ≡ puts (λ v. first + v) (λ v. lane_at y.now 0 v) lanes volume.old }
 {
-    let mut v = 0;
-    while v < lanes {
+    for v in 0..lanes {
         let x = Pair {
             re: y[v],
             im: y[v + 16],
         };
         slices::store(volume, first + v, x);
-        v += 1;
     }
 }

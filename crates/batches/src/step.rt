@@ -36,10 +36,10 @@ fn outer_sums<'a>(
     let base = at.base;
     let gap = at.gap;
     if gap == 1 {
-        crate::radix::first_sums(m, re, im, sre, sim, outer, at, from, y);
+        crate::radix::sums::<true>(m, re, im, sre, sim, outer, at, from, y);
         crate::copying::put_blocks(y, outer, to, base, gap);
     } else {
-        crate::radix::turned_sums(m, re, im, sre, sim, outer, at, from, y);
+        crate::radix::sums::<false>(m, re, im, sre, sim, outer, at, from, y);
         crate::copying::put_blocks(y, outer, to, base, gap);
     }
 }
@@ -74,20 +74,18 @@ pub fn step<'a>(
     let skip = outer * inner - inner;
     let exponent = 2880 / (inner * outer);
     let mut y = [0u32; 160];
-    let mut first = 0;
     let mut a = 0;
     let mut base = 0;
     let mut k = 0;
-    while first < stride {
+    for first in 0..stride {
         let at = Places {
-            first: first,
-            stride: stride,
-            k: k,
-            base: base,
+            first,
+            stride,
+            k,
+            base,
             gap: inner,
         };
         outer_sums(m, re, im, sre, sim, outer, at, from, to, &mut y);
-        first += 1;
         a += 1;
         base += 1;
         k += exponent;

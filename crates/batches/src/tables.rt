@@ -28,9 +28,7 @@ fn shift_list<'a>(m: u32, from: &'a [u32; 2880], to: &mut [u32; 2880])
     ensures { ShiftedList m from.now 2880 to.new }
 {
     let c = crate::residues::shift(m);
-    let mut k = 0;
-    while k < 2880 {
+    for k in 0..2880 {
         to[k] = numbers::mul(m, c, from[k]);
-        k += 1;
     }
 }

@@ -44,7 +44,7 @@ pub fn transform<'a>(
     }
     if at.left != 0 {
         next_step(m, re, im, sre, sim, at, line, work);
-        slices::copy(work, line, 16 * n);
+        line.copy_from_slice(work);
     }
 }
 

@@ -3,7 +3,7 @@ use borrow.Author.Rules.{rules}
 use mathlib.Core.Path.{refl}
 use Prim.Native.Nat.{ℕ, ◌*◌, ◌%◌, ◌≤◌}
 use native.Mathlib.Omega.{arith}
-use native.Mathlib.Nat.{mod-lt, mul-le-mul}
+use native.Mathlib.Nat.{mul-le-mul}
 use Rattle.numbers.proofs.Primes.{prime_most}
 use Rattle.batches.proofs.Division.{divided_as}
 use Rattle.batches.proofs.reduction.divided.Statement.{statement}

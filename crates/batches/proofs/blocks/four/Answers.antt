@@ -1,0 +1,36 @@
+-- Each turn makes the sums of one lane.
+use Rattle.std.proofs.Common.{arith, ℕ, ◌*◌, ap}
+use lib.Dec.{eqb}
+use borrow.Author.Tests.{eqb-true, eqb-false}
+use Rattle.roots.specs.Table.{table_root}
+use Rattle.batches.specs.Lanes.{spread_lane, four_pairs, turned_value}
+use Rattle.batches.proofs.Sums.{four_good, quarter_value}
+use Rattle.batches.proofs.LaneLists.{lane_value, low_by, plain_lane, summed_next, summed_start}
+use Rattle.batches.proofs.blocks.four.Goals as goal
+
+pub loop-v-init : goal.loop-v-init
+loop-v-init g c = summed_start c.told-y
+
+pub loop-v-preserved : goal.loop-v-preserved
+unfolding spread_lane
+loop-v-preserved g c =
+    let m = c.args.m in
+    let at = c.args.at in
+    let from = c.args.from.now in
+    let v = c.loop-v.v in
+    let modulus = c.requires.modulus in
+    let eight = ap (λ (n : ℕ). 8 * n) c.modulus-o.ensures.0 in
+    let values = turned_value m (table_root m c.args.re.now c.args.im.now) at from v in
+    summed_next (four_pairs c.of_four-p.result c.of_four-q.result) c.loop-v.invariant (omega arith) (omega arith) (cc)
+    (λ X up. four_good modulus.1 values eight c.of_four-p.ensures c.of_four-q.ensures
+    (plain_lane m _ at from v 0 (omega arith) c.part-r0.ensures.0 c.part-s0.ensures.0)
+    (lane_value _ modulus.1 modulus.2 c.requires.apart.0 v 1 c.requires.first (omega arith) (omega arith) c.factor_at-w1.ensures
+    c.turned_re-r1.ensures.plain c.turned_re-r1.ensures.turned c.turned_im-s1.ensures.plain c.turned_im-s1.ensures.turned)
+    (lane_value _ modulus.1 modulus.2 c.requires.apart.0 v 2 c.requires.first (omega arith) (omega arith) c.factor_at-w2.ensures
+    c.turned_re-r2.ensures.plain c.turned_re-r2.ensures.turned c.turned_im-s2.ensures.plain c.turned_im-s2.ensures.turned)
+    (lane_value _ modulus.1 modulus.2 c.requires.apart.0 v 3 c.requires.first (omega arith) (omega arith) c.factor_at-w3.ensures
+    c.turned_re-r3.ensures.plain c.turned_re-r3.ensures.turned c.turned_im-s3.ensures.plain c.turned_im-s3.ensures.turned)
+    (quarter_value modulus.1 values eight (eqb c.root_at-up.result.im 1) _ _ _ _ c.root_at-up.ensures (eqb-true c.root_at-up.result.im 1) (eqb-false c.root_at-up.result.im 1)
+    (omega arith) (omega arith) (omega arith) (omega arith) c.quarter.ensures.0 c.quarter-in-loop-v.ensures.0)
+    (omega arith) (omega arith) (omega arith) (omega arith) (omega arith) (omega arith) c.quarter.ensures.1 c.quarter-in-loop-v.ensures.1
+    (low_by up _ c.part-r0.ensures.0) (low_by up _ c.part-s0.ensures.0))

@@ -1,0 +1,6 @@
+use Rattle.roots.specs.Table.{table_root}
+use Rattle.batches.specs.Lanes.{Summed}
+use Rattle.batches.proofs.blocks.four.Given as goal
+
+abbrev pub invariant-loop-v : goal.invariant-loop-v
+invariant-loop-v g l = Summed l.m (table_root l.m l.re l.im) 4 l.at l.from l.v l.y

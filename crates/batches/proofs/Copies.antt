@@ -79,9 +79,6 @@ copied {y} c j {before} {part} from_fits fits is = record {
         (lt_or_ge k (32 * j))
 
 module _ {y : List ℕ} {base gap : ℕ} {before : List ℕ} where
-  pub blocks_start : PutBlocks y base gap 0 before before
-  blocks_start = record { long = refl; new = λ c v l. absurd (not-suc-le-zero l); kept = λ i v lv h. refl }
-
   pub blocks_next : {n : ℕ} {d e : List ℕ} → PutBlocks y base gap n before d → 0 < gap → PutBlock y n (base + n * gap) d e → PutBlocks y base gap (n + 1) before e
   blocks_next {n} {d} {e} h pos p = record {
     long = p.long ∙ h.long;
@@ -94,13 +91,3 @@ module _ {y : List ℕ} {base gap : ℕ} {before : List ℕ} where
     where
       below : (n c : ℕ) → c < n + 1 → c ≢ n → c < n
       below n c l other = omega (arith, other)
-
-pub blocks_done : {y : List ℕ} {base gap c n : ℕ} {before after : List ℕ} → PutBlocks y base gap c before after → c ≡ n → PutBlocks y base gap n before after
-blocks_done {y} {base} {gap} {before = before} {after = after} h e = subst (λ n. PutBlocks y base gap n before after) e h
-
-pub placed_by : {m : ℕ} {W : Value m} {B : ℕ} {p : Places} {l y before after : List ℕ} → Summed m W B p l 16 y → PutBlocks y p.base p.gap B before after → PlacedSums m W B p l before after
-placed_by {m} {W} {B} {p} {l} s h = record {
-  long = h.long;
-  new = λ X up v c lv lc. subst (λ x. Good m (X + 32 * prime m) x (outer (field m) W B (turned_value m W p l v) c)) (sym (h.new c v lc lv)) (s.lanes X up v c lv lc);
-  kept = h.kept;
-}

@@ -24,14 +24,6 @@ at_choice : (b : Bool) (x : ℕ) → 4294967296 * ((x + x % 4294967296 * cond b 
 at_choice true x = exact 86399 743674241 x _ (first_whole (x % 4294967296))
 at_choice false x = exact 302399 2496671041 x _ (second_whole (x % 4294967296))
 
-pub inverse_one : {m : ℕ} → m ≡ 1 → minus_inverse m ≡ 743674241
-unfolding minus_inverse
-inverse_one e = ap (λ b. cond b 743674241 2496671041) (eq-eqb _ 1 e)
-
-pub inverse_two : {m : ℕ} → IsModulus m → (m ≡ 1 → ⊥) → minus_inverse m ≡ 2496671041
-unfolding minus_inverse
-inverse_two is n = ap (λ b. cond b 743674241 2496671041) (ne_eqb _ 1 n)
-
 -- the multiple that is added
 abbrev multiple : (m x : ℕ) → ℕ
 multiple m x = x % 4294967296 * minus_inverse m % 4294967296

@@ -81,26 +81,6 @@ module _ {m : ℕ} {W : Value m} {B : ℕ} {p : Places} {l : List ℕ} where
           (λ (other : u ≢ v). rw is (subst (λ x. Good m (X + 32 * prime m) x (outer (field m) W B (turned_value m W p l u) c)) (sym (spread_other f v lv B y c u (omega arith) other)) (s.lanes X up u c (omega (arith, other)) lc)))
           (eq_or_ne u v)
 
--- two to five stores
-module _ (f : ℕ → Pair) (v : ℕ) where
-  pub spread_2 : (y : List ℕ) {a b : List ℕ} → a ≡ put_lane y 0 v (f 0) → b ≡ put_lane a 1 v (f 1) → b ≡ spread_lane f 2 v y
-  unfolding spread_lane
-  spread_2 y e₀ e₁ = e₁ ∙ ap (λ x. put_lane x 1 v (f 1)) e₀
-
-  module _ (y : List ℕ) {a b c : List ℕ} (e₀ : a ≡ put_lane y 0 v (f 0)) (e₁ : b ≡ put_lane a 1 v (f 1)) (e₂ : c ≡ put_lane b 2 v (f 2)) where
-    pub spread_3 : c ≡ spread_lane f 3 v y
-    unfolding spread_lane
-    spread_3 = e₂ ∙ ap (λ x. put_lane x 2 v (f 2)) (spread_2 y e₀ e₁)
-
-    module _ {d : List ℕ} (e₃ : d ≡ put_lane c 3 v (f 3)) where
-      pub spread_4 : d ≡ spread_lane f 4 v y
-      unfolding spread_lane
-      spread_4 = e₃ ∙ ap (λ x. put_lane x 3 v (f 3)) spread_3
-
-      pub spread_5 : {e : List ℕ} → e ≡ put_lane d 4 v (f 4) → e ≡ spread_lane f 5 v y
-      unfolding spread_lane
-      spread_5 e₄ = e₄ ∙ ap (λ x. put_lane x 4 v (f 4)) spread_4
-
 -- what a lane holds, by its numbers
 pub lane_is : (m : ℕ) (l : List ℕ) (j v : ℕ) {a b : ℕ} → a ≡ get_or l (32 * j + v) 0 → b ≡ get_or l (32 * j + (v + 16)) 0 → value m a b ≡ value_of m (lane_at l j v)
 unfolding lane_at value_of
@@ -144,12 +124,6 @@ lane_value true {m} h t {p = p} near v b start lb e is x_is x_turned y_is y_turn
     ap₂ (value m) (x_is refl) (y_is refl) ∙ one_turn m _ (b * p.k) _ (rw (start refl).none (omega arith))
 lane_value false h t {p = p} {l = l} near v b start lb e is x_is x_turned y_is y_turned = turned_lane h t p l v b _ e (omega (arith, near.exponents b lb)) is (x_turned refl) (y_turned refl)
 
-pub held_by : {m : ℕ} {re im sre sim : List ℕ} (t : ShiftedTable m re im sre sim) (k : ℕ) {w : Factor} → w ≡ factor_at m sre sim k → Held m w
-held_by {m} t k e = subst (Held m) (sym e) (held_at t k)
-
-pub summed_all : {m : ℕ} {W : Value m} {B : ℕ} {p : Places} {l y : List ℕ} {v : ℕ} → Summed m W B p l v y → 16 ≤ v → Summed m W B p l 16 y
-summed_all s h = record { long = s.long; lanes = λ X up u c lu lc. s.lanes X up u c (omega arith) lc }
-
 pub low_by : {X : ℕ} {l : List ℕ} → UpTo X l → (k : ℕ) {x : ℕ} → x ≡ get_or l k 0 → x ≤ X
 low_by {X} h k e = subst (λ y. y ≤ X) (sym e) (h.each k)
 
@@ -157,9 +131,6 @@ pub shifted_by : {m : ℕ} {re im sre sim : List ℕ} (t : ShiftedTable m re im 
     → Shifted m w (res m (entry_at re im k).re, res m (entry_at re im k).im)
 unfolding entry_at
 shifted_by {m} {re} {im} t k lt e = subst (λ w. Shifted m w (res m (get_or re k 0), res m (get_or im k 0))) (sym e) (shifted_at t k lt)
-
-pub store_as : (y : List ℕ) {z : List ℕ} (c v : ℕ) {a b a' b' : ℕ} → z ≡ put_lane y c v (record { re = a; im = b }) → a ≡ a' → b ≡ b' → z ≡ put_lane y c v (record { re = a'; im = b' })
-store_as y c v e ea eb = e ∙ ap₂ (λ a b. put_lane y c v (record { re = a; im = b })) ea eb
 
 -- with the turn as it was computed
 pub three_as : {m : ℕ} {z : Factor} {o a b c t u : ℕ} {r : Three} → t ≡ u → ThreeOf m z o a b c t r → ThreeOf m z o a b c u r

@@ -44,9 +44,6 @@ module _ {m : ℕ} (c x : ℕ) {p r : ℕ} (e : p ≡ prime m) (h : Divided m (c
 -- ---- tables
 
 module _ {m : ℕ} {from : List ℕ} where
-  pub shifting_start : {to : List ℕ} → length to ≡ 2880 → ShiftedList m from 0 to
-  shifting_start e = record { long = e; low = λ k l. absurd (not-suc-le-zero l); is = λ k l. absurd (not-suc-le-zero l) }
-
   pub shifting_next : {k : ℕ} {to : List ℕ} {c x : ℕ} → ShiftedList m from k to → k < 2880 → c ≡ (res m 4294967296).val → x ≡ ((ring m).mul (res m c) (res m (get_or from k 0))).val
       → ShiftedList m from (k + 1) (set to k x)
   shifting_next {k} {to} {c} {x} h l e is = record {
@@ -69,9 +66,6 @@ module _ {m : ℕ} {from : List ℕ} where
 
       kept : (i : ℕ) → i ≢ k → get_or (set to k x) i 0 ≡ get_or to i 0
       kept i other = get_or-set_other to k i x 0 other
-
-pub shifting_done : {m : ℕ} {from to : List ℕ} {k : ℕ} → ShiftedList m from k to → 2880 ≤ k → ShiftedList m from 2880 to
-shifting_done h l = record { long = h.long; low = λ i li. h.low i (omega arith); is = λ i li. h.is i (omega arith) }
 
 pub tables_shifted : {m : ℕ} {re im sre sim : List ℕ} → ShiftedList m re 2880 sre → ShiftedList m im 2880 sim → ShiftedTable m re im sre sim
 tables_shifted {m} {re} {im} {sre} {sim} h k = record { low_re = low h; low_im = low k; re_is = h.is; im_is = k.is }

@@ -60,21 +60,6 @@ putting_as {f} {j} {before = before} {after = after} h e = subst (λ n. PutLanes
 
 -- ---- all places
 
-module _ {volume : List ℕ} {start stride lanes : ℕ} where
-  pub gathering_start : {d : List ℕ} → Gathered volume start stride lanes 0 d
-  gathering_start = record { each = λ j v l. absurd (not-suc-le-zero l) }
-
-  pub gathering_next : {j : ℕ} {d e : List ℕ} → Gathered volume start stride lanes j d → PutLanes (lane_pair volume (start + j * stride) lanes) j 16 d e → Gathered volume start stride lanes (j + 1) e
-  gathering_next {j} {d} {e} h p = record {
-    each = λ i v li lv. ⊎_elim
-        (λ (q : i ≡ j). ap (λ k. lane_at e k v) q ∙ p.new v lv ∙ ap (λ k. lane_pair volume (start + k * stride) lanes v) (sym q))
-        (λ (other : i ≢ j). p.kept i v lv (λ q. absurd (other q)) ∙ h.each i v (below_other li other) lv)
-        (eq_or_ne i j);
-  }
-
-pub gathering_done : {volume : List ℕ} {start stride lanes j n : ℕ} {d : List ℕ} → Gathered volume start stride lanes j d → n ≤ j → Gathered volume start stride lanes n d
-gathering_done h l = record { each = λ i v li lv. h.each i v (omega arith) lv }
-
 -- the line of a lane is the line of the volume
 module _ {volume : List ℕ} {start stride lanes n : ℕ} {d : List ℕ} (h : Gathered volume start stride lanes n d) (m : ℕ) where
   pub gathered_line : {v : ℕ} → lanes ≤ 16 → v < lanes → line_in m n v d ≡ list_of n (λ j. values_of m volume (start + j * stride + v))
@@ -96,22 +81,6 @@ module _ {volume : List ℕ} {start stride lanes n : ℕ} {d : List ℕ} (h : Ga
 -- ---- and back
 
 module _ {m c : ℕ} {s : List ℕ} {j : ℕ} where
-  pub reducing_start : {y : List ℕ} → length y ≡ 32 → ReducedPlace m c s j 0 y
-  reducing_start e = record { long = e; is = λ c₀ h u l. absurd (not-suc-le-zero l) }
-
-  pub reducing_next : {u : ℕ} {y : List ℕ} {x : ℕ} → ReducedPlace m c s j u y → u < 32 → ((c₀ : Residue m) → Holds m c c₀ → x ≡ ((ring m).mul c₀ (res m (get_or s (32 * j + u) 0))).val)
-      → ReducedPlace m c s j (u + 1) (set y u x)
-  reducing_next {u} {y} {x} h l is = record {
-    long = length-set y u x ∙ h.long;
-    is = λ c₀ e i li. ⊎_elim
-        (λ (q : i ≡ u). ap (λ k. get_or (set y u x) k 0) q ∙ get_or-set_same y u x 0 (omega (arith, h.long)) ∙ is c₀ e ∙ ap (λ k. ((ring m).mul c₀ (res m (get_or s (32 * j + k) 0))).val) (sym q))
-        (λ (other : i ≢ u). get_or-set_other y u i x 0 other ∙ h.is c₀ e i (below_other li other))
-        (eq_or_ne i u);
-  }
-
-  pub reducing_done : {u : ℕ} {y : List ℕ} → ReducedPlace m c s j u y → 32 ≤ u → ReducedPlace m c s j 32 y
-  reducing_done h l = record { long = h.long; is = λ c₀ e i li. h.is c₀ e i (omega arith) }
-
   -- its pairs
   pub reduced_pair : {y : List ℕ} → ReducedPlace m c s j 32 y → (c₀ : Residue m) → Holds m c c₀ → (v : ℕ) → v < 16 → lane_at y 0 v ≡ pair_of ((field m).mul (real m c₀) (value_of m (lane_at s j v)))
   unfolding lane_at pair_of value_of
@@ -126,9 +95,6 @@ unfolding lane_at
 numbers_lane y v = pair_path (along (λ k. get_or y k 0) v (32 * 0 + v) (omega arith)) (along (λ k. get_or y k 0) (v + 16) (32 * 0 + v + 16) (omega arith))
 
 module _ {m c : ℕ} {s : List ℕ} {start stride lanes : ℕ} {before : List ℕ} where
-  pub scattering_start : Scattered m c s start stride lanes 0 before before
-  scattering_start = record { long = refl; new = λ c₀ e j v l. absurd (not-suc-le-zero l); kept = λ k h. refl }
-
   pub scattering_next : {j : ℕ} (d : List ℕ) {e y : List ℕ} → Scattered m c s start stride lanes j before d → ReducedPlace m c s j 32 y → e ≡ puts (λ v. start + j * stride + v) (λ v. lane_at y 0 v) lanes d
       → lanes ≤ 16 → lanes ≤ stride → 2 * (start + j * stride + lanes) ≤ length before → Scattered m c s start stride lanes (j + 1) before e
   scattering_next {j} d {e} {y} h r is few wide inside = record {
@@ -146,6 +112,3 @@ module _ {m c : ℕ} {s : List ℕ} {start stride lanes : ℕ} {before : List �
         ∙ at_puts_other (λ v. start + j * stride + v) (λ v. lane_at y 0 v) lanes k d (λ u lu. away j u (omega arith) lu)
         ∙ h.kept k (λ i v li lv. away i v (omega arith) lv);
   }
-
-pub scattering_done : {m c : ℕ} {s : List ℕ} {start stride lanes j n : ℕ} {before after : List ℕ} → Scattered m c s start stride lanes j before after → j ≡ n → Scattered m c s start stride lanes n before after
-scattering_done {m} {c} {s} {start} {stride} {lanes} {before = before} {after = after} h e = subst (λ n. Scattered m c s start stride lanes n before after) e h

@@ -99,6 +99,7 @@ pub fn apart(o: u32, a: u32, b: u32) -> u32
 }
 
 // Radix 3: the sums' parts of a, b and c, where `turn` is that part of i (b - c).
+#[tactic(auto, using(numbers::proofs::Primes::prime_most))]
 pub fn of_three(m: u32, z: Factor, o: u32, a: u32, b: u32, c: u32, turn: u32) -> Three
     requires { IsModulus m
         × Held m z
@@ -141,6 +142,7 @@ pub fn of_four(o: u32, a: u32, b: u32, c: u32, d: u32, turn: u32) -> Four
 }
 
 // Radix 5: w = e(1/5) and z = e(2/5); `outer` is the part of i (b - e), `inner` that of i (c - d).
+#[tactic(auto, using(numbers::proofs::Primes::prime_most))]
 pub fn of_five(
     m: u32,
     w: Factor,

@@ -12,6 +12,7 @@ pub fn divided(m: u32, x: u64) -> u32
     ((x + k * (numbers::modulus(m) as u64)) / 4294967296) as u32
 }
 
+#[tactic(auto, unfolding(crate::specs::Reduction::minus_inverse))]
 fn inverse(m: u32) -> u64
     requires { IsModulus m }
     ensures { (result ≡ minus_inverse m) × (result < 4294967296) }

@@ -1,5 +1,5 @@
 -- Copying a block number by number, and several blocks.
-use mathlib.Core.Path.{◌≡◌, refl, sym, ◌∙◌, ap, subst}
+use mathlib.Core.Path.{◌≡◌, refl, sym, ◌∙◌, ap}
 use mathlib.Core.Logic.{◌≢◌, ⊎_elim}
 use mathlib.Core.List.{List}
 use Prim.Native.Nat.{ℕ, ◌+◌, ◌-◌, ◌*◌, ◌<◌, ◌≤◌}
@@ -13,11 +13,8 @@ use Rattle.slices.proofs.Pairs.{eq_or_ne, lt_or_ge}
 use Rattle.slices.proofs.Segments.{length_segment, get_or_segment, length_set_segment, get_or_before, get_or_inside, get_d_after}
 use Rattle.slices.proofs.Rows.{row_end}
 use Rattle.algebra.proofs.ring.Laws.{along}
-use Rattle.numbers.specs.Value.{prime, Value, field}
-use Rattle.butterflies.specs.Equation3.{outer}
-use Rattle.butterflies.specs.declared.twiddle.Places.{Places}
-use Rattle.batches.specs.Lanes.{lane_at, Good, Summed, turned_value}
-use Rattle.batches.specs.Copying.{PutBlock, PutBlocks, PlacedSums}
+use Rattle.batches.specs.Lanes.{lane_at}
+use Rattle.batches.specs.Copying.{PutBlock, PutBlocks}
 
 -- v numbers of block c are copied to block j
 pub record Copying (y : List ℕ) (c j v : ℕ) (before after : List ℕ) : Type 0 where

@@ -1,12 +1,11 @@
 -- A multiple of the prime makes x a multiple of 2^32: 86,399 * 743,674,241 + 1 and 302,399 * 2,496,671,041 + 1 are multiples of it.
-use mathlib.Core.Path.{◌≡◌, sym, ◌∙◌, ap, ap₂, subst}
+use mathlib.Core.Path.{◌≡◌, sym, ◌∙◌, ap₂, subst}
 use mathlib.Core.Bool.{Bool, true, false, cond}
 use Prim.Native.Nat.{ℕ, ◌+◌, ◌*◌, ◌-◌, ◌/◌, ◌%◌, ◌<◌, ◌≤◌}
 use native.Mathlib.Nat.{mod-lt, mul-le-mul_left, mul-le-mul, mul_comm}
 use native.Mathlib.Omega.{arith}
 use lib.Dec.{eqb}
-use borrow.Author.Tests.{eq-eqb, ne_eqb}
-use Rattle.numbers.specs.Value.{prime, IsModulus}
+use Rattle.numbers.specs.Value.{prime}
 use Rattle.batches.specs.Reduction.{Divided, minus_inverse}
 
 first_whole : (l : ℕ) → l + 86399 * (l * 743674241 % 4294967296) ≡ 4294967296 * (14960 * l - 86399 * (l * 743674241 / 4294967296))

@@ -21,8 +21,8 @@ use Rattle.butterflies.specs.declared.twiddle.Places.{Places}
 use Rattle.numbers.specs.Bounds.{res}
 use Rattle.roots.specs.Table.{entry_at, table_root, RootTable}
 use Rattle.batches.specs.declared.lane.Factor.{Factor}
-use Rattle.batches.specs.Reduction.{Divided, Held, Shifted, ShiftedTable, factor_at}
-use Rattle.batches.proofs.Meaning.{turned_value_lem, shifted_power, shifted_at, held_at}
+use Rattle.batches.specs.Reduction.{Divided, Shifted, ShiftedTable, factor_at}
+use Rattle.batches.proofs.Meaning.{turned_value_lem, shifted_power, shifted_at}
 use Rattle.batches.specs.declared.lane.Three.{Three}
 use Rattle.batches.specs.declared.lane.Five.{Five}
 use Rattle.batches.specs.Formulas.{ThreeOf, FiveOf}

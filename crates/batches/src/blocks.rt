@@ -10,6 +10,7 @@ ghost use Rattle.roots.specs.Table.{table_root, RootTable};
 ghost use Rattle.batches.specs.Reduction.{Divided, Held, ShiftedTable, factor_at};
 ghost use Rattle.batches.specs.Lanes.{lane_at, put_lane, UpTo, Apart, FirstStep, Summed};
 
+use crate::gathering::store_lane;
 use crate::lane::Factor;
 use butterflies::twiddle::Places;
 
@@ -74,17 +75,6 @@ fn turned_im<const FIRST: bool>(
     } else {
         crate::lane::turned_im(m, w, part(at, from, b, v), y)
     }
-}
-
-// The pair a + b i goes to lane v of block c.
-#[tactic(auto, unfolding(crate::specs::Lanes::put_lane))]
-fn store_lane(y: &mut [u32; 160], c: usize, v: usize, a: u32, b: u32)
-    requires { (c < 5) × (v < 16) }
-    ensures { y.new ≡ put_lane y.old c v (record { re = a; im = b }) }
-{
-    let k = 32 * c + v;
-    y[k] = a;
-    y[k + 16] = b;
 }
 
 // Radix 2.

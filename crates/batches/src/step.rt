@@ -33,15 +33,12 @@ fn outer_sums<'a>(
         to.old to.new
         × (length y.new ≡ 160) }
 {
-    let base = at.base;
-    let gap = at.gap;
-    if gap == 1 {
+    if at.gap == 1 {
         crate::radix::sums::<true>(m, re, im, sre, sim, outer, at, from, y);
-        crate::copying::put_blocks(y, outer, to, base, gap);
     } else {
         crate::radix::sums::<false>(m, re, im, sre, sim, outer, at, from, y);
-        crate::copying::put_blocks(y, outer, to, base, gap);
     }
+    crate::copying::put_blocks(y, outer, to, at.base, at.gap);
 }
 
 // All butterflies of a step, in the order and with the letters of plain::step::step. The numbers grow by no more than

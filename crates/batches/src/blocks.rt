@@ -51,7 +51,7 @@ fn turned_re<const FIRST: bool>(
     }
 }
 
-// Its imaginary part.
+// Its imaginary part: a function of its own, since a struct of both parts costs in every lane (lane.rt).
 #[tactic(auto, unfolding(crate::specs::Lanes::lane_at))]
 fn turned_im<const FIRST: bool>(
     m: u32,

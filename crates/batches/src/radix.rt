@@ -7,7 +7,7 @@ ghost use Rattle.batches.specs.Lanes.{UpTo, Apart, FirstStep, Summed};
 
 use butterflies::twiddle::Places;
 
-// FIRST: in the first step.
+// FIRST says that it is one of the first step, where nothing is multiplied.
 pub fn sums<'a, const FIRST: bool>(
     m: u32,
     re: &'a [u32; 2880],
@@ -28,13 +28,10 @@ pub fn sums<'a, const FIRST: bool>(
     ensures { Summed m (table_root m re.now im.now) outer at from.now 16
         y.new }
 {
-    if outer == 4 {
-        crate::blocks::four::<FIRST>(m, re, im, sre, sim, at, from, y);
-    } else if outer == 2 {
-        crate::blocks::two::<FIRST>(m, re, im, sre, sim, at, from, y);
-    } else if outer == 3 {
-        crate::blocks::three::<FIRST>(m, re, im, sre, sim, at, from, y);
-    } else {
-        crate::blocks::five::<FIRST>(m, re, im, sre, sim, at, from, y);
+    match outer {
+        2 => crate::blocks::two::<FIRST>(m, re, im, sre, sim, at, from, y),
+        3 => crate::blocks::three::<FIRST>(m, re, im, sre, sim, at, from, y),
+        4 => crate::blocks::four::<FIRST>(m, re, im, sre, sim, at, from, y),
+        _ => crate::blocks::five::<FIRST>(m, re, im, sre, sim, at, from, y),
     }
 }

@@ -38,6 +38,7 @@ pub fn transform<'a>(
         inner: 1,
         lines: n,
     };
+    // While two factors or more are left: a stage says what is left, and nothing is counted.
     while 8 <= at.left {
         at = next_step(m, re, im, sre, sim, at, line, work);
         at = next_step(m, re, im, sre, sim, at, work, line);

@@ -13,7 +13,7 @@ use Rattle.algebra.specs.ring.Ring.{pow}
 use Rattle.algebra.proofs.ring.Laws.{along}
 use Rattle.algebra.proofs.fourier.Transform.{pow_zero}
 use Rattle.numbers.specs.declared.Pair.{Pair}
-use Rattle.numbers.specs.Value.{prime, Value, field, value, value_of}
+use Rattle.numbers.specs.Value.{prime, IsModulus, Value, field, value, value_of}
 use Rattle.numbers.proofs.Values.{pair_path, field_ring}
 use Rattle.slices.proofs.Pairs.{eq_or_ne}
 use Rattle.butterflies.specs.Equation3.{outer}
@@ -21,8 +21,8 @@ use Rattle.butterflies.specs.declared.twiddle.Places.{Places}
 use Rattle.numbers.specs.Bounds.{res}
 use Rattle.roots.specs.Table.{entry_at, table_root, RootTable}
 use Rattle.batches.specs.declared.lane.Factor.{Factor}
-use Rattle.batches.specs.Reduction.{Divided, Shifted, ShiftedTable, factor_at}
-use Rattle.batches.proofs.Meaning.{turned_value_lem, shifted_power, shifted_at}
+use Rattle.batches.specs.Reduction.{Divided, Held, Shifted, ShiftedTable, factor_at}
+use Rattle.batches.proofs.Meaning.{turned_value_lem, shifted_power, shifted_at, held_at}
 use Rattle.batches.specs.declared.lane.Three.{Three}
 use Rattle.batches.specs.declared.lane.Five.{Five}
 use Rattle.batches.specs.Formulas.{ThreeOf, FiveOf}
@@ -123,6 +123,15 @@ unfolding value_of
 lane_value true {m} h t {p = p} near v b start lb e is x_is x_turned y_is y_turned =
     ap₂ (value m) (x_is refl) (y_is refl) ∙ one_turn m _ (b * p.k) _ (rw (start refl).none (omega arith))
 lane_value false h t {p = p} {l = l} near v b start lb e is x_is x_turned y_is y_turned = turned_lane h t p l v b _ e (omega (arith, near.exponents b lb)) is (x_turned refl) (y_turned refl)
+
+pub held_by : {m : ℕ} {re im sre sim : List ℕ} (t : ShiftedTable m re im sre sim) (k : ℕ) {w : Factor} → w ≡ factor_at m sre sim k → Held m w
+held_by {m} t k e = subst (Held m) (sym e) (held_at t k)
+
+-- what a value's parts ask
+pub turned_asks : {m : ℕ} {re im sre sim : List ℕ} {B : ℕ} {p : Places} {l : List ℕ} → IsModulus m × RootTable m re im × ShiftedTable m re im sre sim → Apart B p l → UpTo 1073741823 l
+    → (v b k : ℕ) {w : Factor} → v < 16 → b < B → B ≤ 5 → w ≡ factor_at m sre sim k
+    → IsModulus m × Held m w × (b < 5) × (v < 16) × (32 * (b * p.stride + p.first) + 32 ≤ length l) × UpTo 1073741823 l
+turned_asks modulus near up v b k lv lb few is = (modulus.0, held_by modulus.2 k is, omega arith, lv, near.inside b lb, up)
 
 pub low_by : {X : ℕ} {l : List ℕ} → UpTo X l → (k : ℕ) {x : ℕ} → x ≡ get_or l k 0 → x ≤ X
 low_by {X} h k e = subst (λ y. y ≤ X) (sym e) (h.each k)

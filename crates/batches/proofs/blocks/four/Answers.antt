@@ -5,11 +5,41 @@ use borrow.Author.Tests.{eqb-true, eqb-false}
 use Rattle.roots.specs.Table.{table_root}
 use Rattle.batches.specs.Lanes.{spread_lane, four_pairs, turned_value}
 use Rattle.batches.proofs.Sums.{four_good, quarter_value}
-use Rattle.batches.proofs.LaneLists.{lane_value, low_by, plain_lane, summed_next, summed_start}
+use Rattle.batches.proofs.LaneLists.{lane_value, low_by, plain_lane, summed_next, summed_start, turned_asks}
 use Rattle.batches.proofs.blocks.four.Goals as goal
 
 pub loop-v-init : goal.loop-v-init
 loop-v-init g c = summed_start c.told-y
+
+pub part-r0-requires : goal.part-r0-requires
+part-r0-requires g c = (omega arith, omega arith, c.requires.apart.0.inside 0 (omega arith), c.requires.apart.1)
+
+pub part-s0-requires : goal.part-s0-requires
+part-s0-requires g c = (omega arith, omega arith, c.requires.apart.0.inside 0 (omega arith), c.requires.apart.1)
+
+pub overflow_mul-k-2 : goal.overflow_mul-k-2
+overflow_mul-k-2 g c = omega (arith, c.requires.apart.0.exponents 3 (omega arith))
+
+pub factor_at-w3-requires : goal.factor_at-w3-requires
+factor_at-w3-requires g c = (c.requires.modulus.0, omega (arith, c.requires.apart.0.exponents 3 (omega arith)), omega (arith, c.requires.modulus.2.low_im (3 * c.args.at.k)))
+
+pub turned_re-r1-requires-clause-modulus : goal.turned_re-r1-requires-clause-modulus
+turned_re-r1-requires-clause-modulus g c = turned_asks c.requires.modulus c.requires.apart.0 c.requires.apart.1 c.loop-v.v 1 c.args.at.k (omega arith) (omega arith) (omega arith) c.factor_at-w1.ensures
+
+pub turned_im-s1-requires-clause-modulus : goal.turned_im-s1-requires-clause-modulus
+turned_im-s1-requires-clause-modulus g c = turned_asks c.requires.modulus c.requires.apart.0 c.requires.apart.1 c.loop-v.v 1 c.args.at.k (omega arith) (omega arith) (omega arith) c.factor_at-w1.ensures
+
+pub turned_re-r2-requires-clause-modulus : goal.turned_re-r2-requires-clause-modulus
+turned_re-r2-requires-clause-modulus g c = turned_asks c.requires.modulus c.requires.apart.0 c.requires.apart.1 c.loop-v.v 2 (2 * c.args.at.k) (omega arith) (omega arith) (omega arith) c.factor_at-w2.ensures
+
+pub turned_im-s2-requires-clause-modulus : goal.turned_im-s2-requires-clause-modulus
+turned_im-s2-requires-clause-modulus g c = turned_asks c.requires.modulus c.requires.apart.0 c.requires.apart.1 c.loop-v.v 2 (2 * c.args.at.k) (omega arith) (omega arith) (omega arith) c.factor_at-w2.ensures
+
+pub turned_re-r3-requires-clause-modulus : goal.turned_re-r3-requires-clause-modulus
+turned_re-r3-requires-clause-modulus g c = turned_asks c.requires.modulus c.requires.apart.0 c.requires.apart.1 c.loop-v.v 3 (3 * c.args.at.k) (omega arith) (omega arith) (omega arith) c.factor_at-w3.ensures
+
+pub turned_im-s3-requires-clause-modulus : goal.turned_im-s3-requires-clause-modulus
+turned_im-s3-requires-clause-modulus g c = turned_asks c.requires.modulus c.requires.apart.0 c.requires.apart.1 c.loop-v.v 3 (3 * c.args.at.k) (omega arith) (omega arith) (omega arith) c.factor_at-w3.ensures
 
 pub loop-v-preserved : goal.loop-v-preserved
 unfolding spread_lane

@@ -3,11 +3,23 @@ use Rattle.std.proofs.Common.{arith, ℕ, ◌*◌, ap}
 use Rattle.roots.specs.Table.{table_root}
 use Rattle.batches.specs.Lanes.{spread_lane, two_pairs, turned_value}
 use Rattle.batches.proofs.Sums.{two_good}
-use Rattle.batches.proofs.LaneLists.{lane_value, low_by, plain_lane, summed_next, summed_start}
+use Rattle.batches.proofs.LaneLists.{lane_value, low_by, plain_lane, summed_next, summed_start, turned_asks}
 use Rattle.batches.proofs.blocks.two.Goals as goal
 
 pub loop-v-init : goal.loop-v-init
 loop-v-init g c = summed_start c.told-y
+
+pub part-r0-requires : goal.part-r0-requires
+part-r0-requires g c = (omega arith, omega arith, c.requires.apart.0.inside 0 (omega arith), c.requires.apart.1)
+
+pub part-s0-requires : goal.part-s0-requires
+part-s0-requires g c = (omega arith, omega arith, c.requires.apart.0.inside 0 (omega arith), c.requires.apart.1)
+
+pub turned_re-r1-requires-clause-modulus : goal.turned_re-r1-requires-clause-modulus
+turned_re-r1-requires-clause-modulus g c = turned_asks c.requires.modulus c.requires.apart.0 c.requires.apart.1 c.loop-v.v 1 c.args.at.k (omega arith) (omega arith) (omega arith) c.factor_at-w1.ensures
+
+pub turned_im-s1-requires-clause-modulus : goal.turned_im-s1-requires-clause-modulus
+turned_im-s1-requires-clause-modulus g c = turned_asks c.requires.modulus c.requires.apart.0 c.requires.apart.1 c.loop-v.v 1 c.args.at.k (omega arith) (omega arith) (omega arith) c.factor_at-w1.ensures
 
 pub loop-v-preserved : goal.loop-v-preserved
 unfolding spread_lane

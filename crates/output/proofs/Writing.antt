@@ -6,8 +6,8 @@ use Prim.Native.Nat.{ℕ, zero, suc, ◌+◌, ◌<◌, ◌≤◌}
 use native.Mathlib.Nat.{eq-or-lt_of_le, le_antisymm, suc_inj}
 use native.Mathlib.Numerals.{add-one}
 use native.Mathlib.Omega.{arith}
-use lib.ListN.{length, set, take, get_or, drop, length-append, length-take}
-use lib.Seq.{sets, sets-eq, set_out, length-sets, take-suc}
+use lib.ListN.{length, set, take, get_or, drop, length-append}
+use lib.Seq.{sets, sets-eq, length-sets, take-suc}
 use Rattle.algebra.proofs.ring.Laws.{along}
 use Rattle.std.specs.Prelude.{Ok}
 use Rattle.output.specs.Output.{each, written, filled}
@@ -33,10 +33,6 @@ wrote_append {at} {e} {f} {s} {t} {d} {d'} {d''} h k = record {
 pub wrote_as : {at e : ℕ} {s t d d' : List ℕ} → Wrote at s d e d' → s ≡ t → Wrote at t d e d'
 wrote_as {at} {e} {s} {t} {d} {d'} h q = subst (λ (l : List ℕ). Wrote at l d e d') q h
 
--- a byte beyond the output
-pub wrote_beyond : (at b : ℕ) (d : List ℕ) → length d ≤ at → Wrote at (b ∷ []) d (at + 1) d
-wrote_beyond at b d h = record { place = refl; bytes = sym (set_out d at b h) }
-
 pub wrote_length : {at e : ℕ} {s d d' : List ℕ} → Wrote at s d e d' → length d' ≡ length d
 wrote_length {at} {e} {s} {d} h = ap length h.bytes ∙ length-sets d at s
 
@@ -59,9 +55,6 @@ pub ends_right : {at e : ℕ} {s d d' : List ℕ} (t : List ℕ) → Wrote at s 
 ends_right {s = s} t w h = record { low = omega (arith, w.place, h.low, length-append s t) }
 
 -- ---- the bytes of a list in a row
-
-pub bytes_ends : {at e i : ℕ} {d d' : List ℕ} (s : List ℕ) → Ends at s → i < length s → Wrote at (take i s) d e d' → Ends e (get_or s i 0 ∷ [])
-bytes_ends {i = i} s h l w = record { low = omega (arith, h.low, w.place, length-take i s) }
 
 pub bytes_next : {at e f i : ℕ} {d d' d'' : List ℕ} (s : List ℕ) → i < length s → Wrote at (take i s) d e d' → Wrote e (get_or s i 0 ∷ []) d' f d'' → Wrote at (take (i + 1) s) d f d''
 bytes_next {i = i} s l w k = rw (add-one, take-suc s i 0 l) (wrote_append w k)

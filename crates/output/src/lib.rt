@@ -16,10 +16,8 @@ pub fn put_byte(out: &mut [u8], at: usize, byte: u8) -> usize
 {
     if at < out.len() {
         out[at] = byte;
-        at + 1
-    } else {
-        at + 1
     }
+    at + 1
 }
 
 pub fn put_bytes(out: &mut [u8], at: usize, text: &[u8]) -> usize
@@ -27,10 +25,8 @@ pub fn put_bytes(out: &mut [u8], at: usize, text: &[u8]) -> usize
     ensures { Wrote at text.now out.old result out.new }
 {
     let mut place = at;
-    let mut i = 0;
-    while i < text.len() {
-        place = put_byte(out, place, text[i]);
-        i += 1;
+    for byte in text {
+        place = put_byte(out, place, *byte);
     }
     place
 }

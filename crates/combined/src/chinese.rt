@@ -32,10 +32,8 @@ pub fn combine_all(first: &[u32], second: &[u32], output: &mut [i64])
     requires second_len { (length second.now ≡ length first.now) × (length output.old ≡ length first.now) }
     ensures { output.new ≡ combined_numbers first.now second.now }
 {
-    let mut n: usize = 0;
-    while n < first.len() {
-        output[n] = combine(first[n], second[n]);
-        n += 1;
+    for (n, number) in output.iter_mut().enumerate() {
+        *number = combine(first[n], second[n]);
     }
 }
 

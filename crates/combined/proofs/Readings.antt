@@ -1,13 +1,14 @@
 -- A point of a combined map that the tests let pass: it lies in the cell, and its number in the map.
 use mathlib.Core.Path.{◌≡◌, refl, sym, ◌∙◌, ap}
-use mathlib.Core.List.{List}
-use Prim.Native.Nat.{ℕ}
+use mathlib.Core.Bool.{true}
+use mathlib.Core.List.{List, [], ◌∷◌}
+use Prim.Native.Nat.{ℕ, ◌<◌}
 use native.Mathlib.Omega.{arith}
 use lib.Dec.{ltb}
 use lib.ListN.{length}
 use lib.IntN.{ℤ}
 use borrow.Author.Tests.{leb-false, not-false, eqb-true, ltb-true}
-use Rattle.algebra.specs.cells.Cell.{J, Inside}
+use Rattle.algebra.specs.cells.Cell.{J, Inside, Cell}
 use Rattle.refusals.specs.declared.Refusal.{Refusal}
 use Rattle.refusals.specs.Refusals.{number_of, first, accepted}
 use Rattle.refusals.proofs.Tests.{passed, fails}
@@ -17,7 +18,7 @@ use Rattle.cell.specs.Operations.{cell_group, cell_lengths, cell_halves, point_o
 use Rattle.cell.specs.Volume.{group_of, volume_length}
 use Rattle.header.specs.Header.{half_lengths}
 use Rattle.header.proofs.Headers.{sizes_of, all_three}
-use Rattle.combined.specs.CombinedMap.{count_of, pack_signed}
+use Rattle.combined.specs.CombinedMap.{count_of, pack_signed, Symmetric}
 use Rattle.combined.specs.Reading.{count_tests, Counted, counted, not_counted, count_step, CountsRead}
 use Rattle.combined.proofs.PackedMaps.{packed_point}
 

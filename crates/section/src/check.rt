@@ -42,11 +42,8 @@ fn plane_within(cell: UnitCell, map: &[i64], z: u32) -> bool
     requires { Plane cell map.now z }
     ensures { result ≡ plane_within cell.group (cell_lengths cell) map.now z }
 {
-    let mut x: u32 = 0;
-    while x < cell.n1 {
-        if row_within(cell, map, z, x) {
-            x += 1;
-        } else {
+    for x in 0..cell.n1 {
+        if !row_within(cell, map, z, x) {
             return false;
         }
     }
@@ -58,12 +55,8 @@ fn row_within(cell: UnitCell, map: &[i64], z: u32, x: u32) -> bool
     requires { Plane cell map.now z × (x < cell.n1) }
     ensures { result ≡ row_within cell.group (cell_lengths cell) map.now z x }
 {
-    let mut y: u32 = 0;
-    while y < cell.n2 {
-        let point = Point { x: x, y: y, z: z };
-        if signed::magnitude(combined::count_at(cell, point, map)) <= 13063485600 {
-            y += 1;
-        } else {
+    for y in 0..cell.n2 {
+        if 13063485600 < signed::magnitude(combined::count_at(cell, Point { x, y, z }, map)) {
             return false;
         }
     }

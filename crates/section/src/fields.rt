@@ -10,10 +10,8 @@ pub fn put_blanks(out: &mut [u8], at: usize, used: usize, width: usize) -> usize
     ensures { Wrote at (replicate (width - used) blank) out.old result out.new }
 {
     let mut place = at;
-    let mut i = used;
-    while i < width {
+    for _ in used..width {
         place = output::put_byte(out, place, b' ');
-        i += 1;
     }
     place
 }

@@ -16,10 +16,8 @@ pub fn put_rows(out: &mut [u8], at: usize, cell: UnitCell, map: &[i64], z: u32) 
         out.old result out.new }
 {
     let mut place = at;
-    let mut x: u32 = 0;
-    while x < cell.n1 {
+    for x in 0..cell.n1 {
         place = put_row(out, place, cell, map, z, x);
-        x += 1;
     }
     place
 }
@@ -33,10 +31,8 @@ fn put_row(out: &mut [u8], at: usize, cell: UnitCell, map: &[i64], z: u32, x: u3
 {
     let lines = (cell.n2 + 4) / 5;
     let mut place = at;
-    let mut i: u32 = 0;
-    while i < lines {
+    for i in 0..lines {
         place = put_line(out, place, cell, map, z, x, i);
-        i += 1;
     }
     place
 }
@@ -70,10 +66,8 @@ fn put_values(
         out.old result out.new }
 {
     let mut place = at;
-    let mut t: u32 = 0;
-    while t < 5 {
+    for t in 0..5 {
         place = put_value(out, place, cell, map, z, x, y + t);
-        t += 1;
     }
     place
 }

@@ -11,10 +11,8 @@ pub fn plane_total(cell: UnitCell, map: &[i64], z: u32) -> i64
     ensures { result ≡ total cell.group (cell_lengths cell) map.now z }
 {
     let mut sum: i64 = 0;
-    let mut x: u32 = 0;
-    while x < cell.n1 {
-        sum = sum + row_total(cell, map, z, x);
-        x += 1;
+    for x in 0..cell.n1 {
+        sum += row_total(cell, map, z, x);
     }
     sum
 }
@@ -25,11 +23,8 @@ fn row_total(cell: UnitCell, map: &[i64], z: u32, x: u32) -> i64
     ensures { result ≡ row_total cell.group (cell_lengths cell) map.now z x }
 {
     let mut sum: i64 = 0;
-    let mut y: u32 = 0;
-    while y < cell.n2 {
-        let point = Point { x: x, y: y, z: z };
-        sum = sum + combined::count_at(cell, point, map);
-        y += 1;
+    for y in 0..cell.n2 {
+        sum += combined::count_at(cell, Point { x, y, z }, map);
     }
     sum
 }

@@ -45,13 +45,6 @@ module _ {g : Bool} {run : List ℤ} {start w : ℕ} where
       by k a b true q = subst Its (sym (eqb-true k (t - 1) q)) (rw (get_or-set_same best (t - 1) v 0 (omega (arith, e.low, e.long))) joined)
       by k a b false q = rw (get_or-set_other best (t - 1) k v 0 (eqb-false k (t - 1) q)) (e.each k (omega (arith, eqb-false k (t - 1) q)) b)
 
-  -- a stretch's best is an entry of the block
-  pub suffixes_inside : (best : List ℕ) (t k : ℕ) → Suffixes g run start w t best → t ≤ k → k < w → get_or best k 0 < start + w
-  suffixes_inside best t k e a b = (e.each k a b).before
-
-  pub suffixes_done : {best : List ℕ} (t : ℕ) → t ≤ 0 → Suffixes g run start w t best → Suffixes g run start w 0 best
-  suffixes_done {best} t l h = subst (λ (k : ℕ). Suffixes g run start w k best) (omega arith) h
-
   -- ---- the windows: r entries behind the block's last one have been looked at, so far that it has come to window r
 
   pub window_is : (r : ℕ) {best : List ℕ} {ahead : ℕ} → Suffixes g run start w 0 best → r < w → BestAmong g run (start + (w - 1)) (start + (w - 1) + (r + 1 - 1) + 1) ahead → better_of g run (get_or best r 0) ahead ≡ best_of g run (start + r) w

@@ -26,12 +26,10 @@ pub fn extremes(
         ≡ filled_by (λ j. best_of greatest run.now j w) count places.old }
 {
     let mut best = [0usize; 64];
-    let mut start = 0;
-    while start < count {
-        let size = lesser(w, count - start);
+    for start in (0..count).step_by(w) {
+        let size = w.min(count - start);
         suffixes(greatest, run, start, w, &mut best);
         windows(greatest, run, start, w, size, &best, scores, places);
-        start += size;
     }
 }
 
@@ -59,14 +57,11 @@ fn windows(
 {
     let end = start + (w - 1);
     let mut ahead = end;
-    let mut r = 0;
-    while r < size {
+    for r in 0..size {
         ahead = better(greatest, run, ahead, end + r);
         let place = better(greatest, run, best[r], ahead);
-        let at = start + r;
-        scores[at] = run[place];
-        places[at] = place as u64;
-        r += 1;
+        scores[start + r] = run[place];
+        places[start + r] = place as u64;
     }
 }
 
@@ -75,17 +70,8 @@ fn suffixes(greatest: bool, run: &[i64], start: usize, w: usize, best: &mut [usi
     requires { (1 ≤ w) × (w ≤ 64) × (start + w ≤ length run.now) × (length best.old ≡ 64) }
     ensures { Suffixes greatest run.now start w 0 best.new }
 {
-    let mut t = w - 1;
-    best[t] = start + t;
-    while 0 < t {
-        let ahead = best[t];
-        t -= 1;
-        best[t] = better(greatest, run, start + t, ahead);
+    best[w - 1] = start + (w - 1);
+    for t in (0..w - 1).rev() {
+        best[t] = better(greatest, run, start + t, best[t + 1]);
     }
-}
-
-fn lesser(a: usize, b: usize) -> usize
-    ensures { (result ≤ a) × (result ≤ b) × (1 ≤ a → 1 ≤ b → 1 ≤ result) }
-{
-    if a < b { a } else { b }
 }

@@ -2,7 +2,7 @@
 use mathlib.Core.Path.{◌≡◌, refl, sym, ◌∙◌, ap, ap₂, subst}
 use mathlib.Core.Bool.{Bool, true, false, ◌&&◌, cond}
 use mathlib.Core.List.{List}
-use Prim.Native.Nat.{ℕ, zero, suc, ◌+◌, ◌*◌, ◌/◌, ◌^◌, ◌<◌, ◌≤◌}
+use Prim.Native.Nat.{ℕ, zero, suc, ◌+◌, ◌*◌, ◌/◌, ◌<◌, ◌≤◌}
 use native.Mathlib.Nat.{not-suc-le-zero, le_antisymm}
 use mathlib.Core.Logic.{⊎_elim}
 use native.Mathlib.Numerals.{add-one}
@@ -10,10 +10,9 @@ use native.Mathlib.Omega.{arith}
 use lib.Dec.{T, leb, leb→le, le→leb}
 use lib.ListN.{length, get_or}
 use lib.IntN.{ℤ, pos, nat_abs}
-use lib.Signed.{lt_z, mag}
+use lib.Signed.{lt_z}
 use mir.Syntax.{w64}
 use mir.Val.{to_z, of_z}
-use mir.ValLaws.{to_z-of_z}
 use Rattle.algebra.specs.cells.Cell.{J, Inside, Group, P1, P2₁, Pm, Pa, P2₁2₁2₁, planes, point_image, point_operation}
 use Rattle.algebra.proofs.ring.Bool.{and_i, and_l, and_r, same_test}
 use Rattle.algebra.proofs.cells.CellSym.{point_inside}
@@ -75,11 +74,9 @@ spans_next n f h k e = rw add-one (record { low = e.0 ∙ ap₂ lesser h.low k.l
 pub spans_as : {r : DensityRange} (f g : (ℤ → ℤ → ℤ) → ℤ) → ((pick : ℤ → ℤ → ℤ) → f pick ≡ g pick) → Spans r f → Spans r g
 spans_as f g e h = record { low = h.low ∙ e lesser; high = h.high ∙ e greater }
 
-pub spans_single : {r : DensityRange} (v : List ℤ) (p q : ℕ) → p ≡ q → mag (get_or v p (pos 0)) < 2 ^ 63
+pub spans_single : {r : DensityRange} (v : List ℤ) (p q : ℕ) → p ≡ q → to_z w64 (of_z w64 (get_or v p (pos 0))) ≡ get_or v p (pos 0)
     → (r.least ≡ to_z w64 (of_z w64 (get_or v p (pos 0)))) × (r.greatest ≡ to_z w64 (of_z w64 (get_or v p (pos 0)))) → Spans r (λ pick. get_or v q (pos 0))
-spans_single v p q e f h =
-    let t = to_z-of_z w64 (get_or v p (pos 0)) (record { sfits = f }) ∙ ap (λ (j : ℕ). get_or v j (pos 0)) e in
-    record { low = h.0 ∙ t; high = h.1 ∙ t }
+spans_single v p q e f h = let t = f ∙ ap (λ (j : ℕ). get_or v j (pos 0)) e in record { low = h.0 ∙ t; high = h.1 ∙ t }
 
 pub spans_all : {r : DensityRange} {y n : ℕ} (f : (ℤ → ℤ → ℤ) → ℕ → ℤ) → y ≤ n → n ≤ y → Spans r (λ pick. among pick y (f pick)) → Spans r (λ pick. among pick n (f pick))
 spans_all {r} f l m h = subst (λ (k : ℕ). Spans r (λ pick. among pick k (f pick))) (le_antisymm l m) h

@@ -15,26 +15,14 @@ pub struct DensityRange {
     pub greatest: i64,
 }
 
-fn lesser_of(x: i64, y: i64) -> i64
-    ensures { result ≡ lesser x y }
-{
-    if y < x { y } else { x }
-}
-
-fn greater_of(x: i64, y: i64) -> i64
-    ensures { result ≡ greater x y }
-{
-    if x < y { y } else { x }
-}
-
 // The range of two ranges' numbers.
 fn joined(r: DensityRange, s: DensityRange) -> DensityRange
     ensures { (result.least ≡ lesser r.least s.least)
         × (result.greatest ≡ greater r.greatest s.greatest) }
 {
     DensityRange {
-        least: lesser_of(r.least, s.least),
-        greatest: greater_of(r.greatest, s.greatest),
+        least: r.least.min(s.least),
+        greatest: r.greatest.max(s.greatest),
     }
 }
 
@@ -54,10 +42,8 @@ fn row_range(map: &[i64], start: usize, n: usize) -> DensityRange
     ensures { Spans result (λ pick. among pick n (λ y. get_or map.now (start + y) (pos 0))) }
 {
     let mut range = single(map[start]);
-    let mut y: usize = 1;
-    while y < n {
+    for y in 1..n {
         range = joined(range, single(map[start + y]));
-        y += 1;
     }
     range
 }
@@ -80,12 +66,9 @@ fn plane_range(cell: UnitCell, map: &[i64], z: u32) -> DensityRange
         × (z < layers (cell_group cell) (cell_halves cell)) }
     ensures { Spans result (of_plane cell map.now z) }
 {
-    let n1 = cell.n1;
     let mut range = stored_row(cell, map, z, 0);
-    let mut x: u32 = 1;
-    while x < n1 {
+    for x in 1..cell.n1 {
         range = joined(range, stored_row(cell, map, z, x));
-        x += 1;
     }
     range
 }
@@ -95,12 +78,9 @@ pub fn map_range(cell: UnitCell, map: &[i64]) -> DensityRange
     requires { Sizes cell × (length map.now ≡ volume_length (cell_group cell) (cell_halves cell)) }
     ensures { Spans result (of_stored cell map.now) }
 {
-    let planes = places::layer_count(cell);
     let mut range = plane_range(cell, map, 0);
-    let mut z: u32 = 1;
-    while z < planes {
+    for z in 1..places::layer_count(cell) {
         range = joined(range, plane_range(cell, map, z));
-        z += 1;
     }
     range
 }

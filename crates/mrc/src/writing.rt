@@ -17,10 +17,8 @@ pub fn put_header(out: &mut [u8], at: usize, header: MrcHeader) -> usize
 {
     let words = file_header::header_words(header);
     let mut place = at;
-    let mut k: usize = 0;
-    while k < 256 {
+    for k in 0..256 {
         place = little_endian::put_four(out, place, file_header::word_at(&words, k));
-        k += 1;
     }
     place
 }
@@ -41,13 +39,10 @@ fn put_row(out: &mut [u8], at: usize, cell: UnitCell, map: &[i64], z: u32, y: u3
         × Ends at (row_bytes cell map.now z y) }
     ensures { Wrote at (row_bytes cell map.now z y) out.old result out.new }
 {
-    let n1 = cell.n1;
     let mut place = at;
-    let mut x: u32 = 0;
-    while x < n1 {
+    for x in 0..cell.n1 {
         let n = combined::count_at(cell, Point { x, y, z }, map);
         place = put_density(out, place, n);
-        x += 1;
     }
     place
 }
@@ -57,12 +52,9 @@ fn put_plane(out: &mut [u8], at: usize, cell: UnitCell, map: &[i64], z: u32) -> 
     requires { Writable cell map.now × (z < cell.n3) × Ends at (plane_bytes cell map.now z) }
     ensures { Wrote at (plane_bytes cell map.now z) out.old result out.new }
 {
-    let n2 = cell.n2;
     let mut place = at;
-    let mut y: u32 = 0;
-    while y < n2 {
+    for y in 0..cell.n2 {
         place = put_row(out, place, cell, map, z, y);
-        y += 1;
     }
     place
 }
@@ -72,12 +64,9 @@ pub fn put_cell(out: &mut [u8], at: usize, cell: UnitCell, map: &[i64]) -> usize
     requires { Writable cell map.now × Ends at (cell_bytes cell map.now) }
     ensures { Wrote at (cell_bytes cell map.now) out.old result out.new }
 {
-    let n3 = cell.n3;
     let mut place = at;
-    let mut z: u32 = 0;
-    while z < n3 {
+    for z in 0..cell.n3 {
         place = put_plane(out, place, cell, map, z);
-        z += 1;
     }
     place
 }

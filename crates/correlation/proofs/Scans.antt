@@ -2,7 +2,7 @@
 use mathlib.Core.Path.{◌≡◌, refl, sym, ◌∙◌, ap, subst}
 use mathlib.Core.Logic.{◌↔◌, ⊎_elim}
 use mathlib.Core.Bool.{cond}
-use Prim.Native.Nat.{ℕ, zero, suc, ◌+◌, ◌-◌, ◌*◌, ◌%◌, ◌<◌, ◌≤◌}
+use Prim.Native.Nat.{ℕ, zero, suc, max, ◌+◌, ◌-◌, ◌*◌, ◌%◌, ◌<◌, ◌≤◌}
 use native.Mathlib.Nat.{mod-add-mod, mod-lt, mod-eq_of_lt, eq-or-lt_of_le, le_of_suc-le-suc}
 use native.Mathlib.Numerals.{add-one}
 use native.Mathlib.Omega.{arith}
@@ -26,6 +26,10 @@ larger_is a b = ⊎_elim
     (λ (l : a < b). ap (λ t. cond t b a) (lt-ltb a b l) ∙ omega arith)
     (λ (g : b ≤ a). ap (λ t. cond t b a) (le-ltb a b g) ∙ omega arith)
     (lt_or_ge a b)
+
+-- which is the library's
+pub max_larger : (a b : ℕ) → max a b ≡ larger a b
+max_larger a b = omega (arith, larger_is a b)
 
 pub below_largest : (n k : ℕ) (f : ℕ → ℕ) → k < n → f k ≤ over larger n f
 unfolding over

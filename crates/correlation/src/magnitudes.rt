@@ -25,12 +25,6 @@ fn magnitude_at(v: &[i64], n: usize, column: usize, b: usize) -> u64
     }
 }
 
-fn larger_of(x: u64, y: u64) -> u64
-    ensures { result ≡ larger x y }
-{
-    if x < y { y } else { x }
-}
-
 // The largest magnitude.
 pub fn largest_magnitude(v: &[i64], b: usize) -> u64
     requires { b ≤ 1440 }
@@ -39,11 +33,9 @@ pub fn largest_magnitude(v: &[i64], b: usize) -> u64
     let width = 2 * b + 2;
     let mut most: u64 = 0;
     let mut column: usize = 0;
-    let mut n: usize = 0;
-    while n < v.len() {
-        most = larger_of(most, magnitude_at(v, n, column, b));
+    for n in 0..v.len() {
+        most = most.max(magnitude_at(v, n, column, b));
         column = next_column(column, width);
-        n += 1;
     }
     most
 }
@@ -57,11 +49,9 @@ pub fn sum_of_magnitudes(v: &[i64], b: usize) -> u64
     let width = 2 * b + 2;
     let mut sum: u64 = 0;
     let mut column: usize = 0;
-    let mut n: usize = 0;
-    while n < v.len() {
-        sum = sum + magnitude_at(v, n, column, b);
+    for n in 0..v.len() {
+        sum += magnitude_at(v, n, column, b);
         column = next_column(column, width);
-        n += 1;
     }
     sum
 }

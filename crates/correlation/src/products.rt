@@ -25,11 +25,9 @@ pub fn correlate_pairs(m: u32, c: u32, n: usize, first: &mut [u32], second: &[u3
     requires below { Below (prime m) first.old × Below (prime m) second.now }
     ensures { first.new ≡ list_of n (correlated m c first.old second.now) }
 {
-    let mut j: usize = 0;
-    while j < n {
+    for j in 0..n {
         let x = slices::get(first, j);
         let y = slices::get(second, j);
         slices::store(first, j, correlate_pair(m, c, x, y));
-        j += 1;
     }
 }

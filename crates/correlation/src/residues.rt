@@ -44,10 +44,8 @@ pub fn fill_residues(m: u32, n: usize, b: usize, v: &[i64], d: &mut [u32])
 {
     let width = b + 1;
     let mut column: usize = 0;
-    let mut j: usize = 0;
-    while j < n {
+    for j in 0..n {
         slices::store(d, j, residue_pair(m, v, j, column, b));
         column = crate::magnitudes::next_column(column, width);
-        j += 1;
     }
 }

@@ -30,7 +30,7 @@ fn count_factors(n: u32) -> usize
     requires { product (factored 8 n) ≡ n }
     ensures { result ≡ length (factored 8 n) }
 {
-    let mut small: [u8; 1] = [0];
+    let mut small = [0u8; 1];
     put_factors(n, &mut small)
 }
 
@@ -39,12 +39,12 @@ fn put_factors(n: u32, out: &mut [u8]) -> usize
     requires { product (factored 8 n) ≡ n }
     ensures { Wrote 0 (factored 8 n) out.old result out.new }
 {
-    let mut at: usize = 0;
+    let mut at = 0;
     let mut rest = n;
     while 1 < rest {
         let factor = next_factor(rest);
         at = output::put_byte(out, at, factor as u8);
-        rest = rest / factor;
+        rest /= factor;
     }
     at
 }

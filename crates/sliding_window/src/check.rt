@@ -12,8 +12,7 @@ pub fn window_count(length: usize, w: u32) -> usize
     requires { length < 18446744073709551615 }
     ensures { result ≡ length + 1 - w }
 {
-    let size = w as usize;
-    if length < size { 0 } else { length + 1 - size }
+    (length + 1).saturating_sub(w as usize)
 }
 
 // The refusals, in the paper's order. The outputs count by their lengths alone.

@@ -1,7 +1,6 @@
 pub mod Totals
 pub mod Readings
 pub mod Planes
-pub mod Floors
 pub mod Blanks
 pub mod Widths
 pub mod Lined

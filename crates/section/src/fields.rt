@@ -42,9 +42,10 @@ pub fn put_closing(out: &mut [u8], at: usize, total: i64, points: u64) -> usize
     requires ends { Ends at (closing_text total points) }
     ensures { Wrote at (closing_text total points) out.old result out.new }
 {
-    let mean = crate::floor::floor_quotient(total, points);
-    let rest = crate::floor::floor_remainder(total, points);
+    let count = points as i64;
+    let mean = total.div_euclid(count);
+    let rest = total.rem_euclid(count);
     let second = put_closing_line(out, at, b'T', total);
     let third = put_closing_line(out, second, b'M', mean);
-    put_closing_line(out, third, b'R', rest as i64)
+    put_closing_line(out, third, b'R', rest)
 }

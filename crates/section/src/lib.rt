@@ -6,7 +6,6 @@
 
 mod check; // check.rt: the refusals
 mod fields; // fields.rt: right-aligned numbers, closing lines
-mod floor; // floor.rt: division rounded down
 mod lines; // lines.rt: the rows of the page
 mod sums; // sums.rt: the total of the plane
 

@@ -1,6 +1,6 @@
 -- Numbers taken together by an operation, one after the other: a scan's next step, the larger of two, bounds; and the column of the next place.
 use mathlib.Core.Path.{◌≡◌, refl, sym, ◌∙◌, ap, subst}
-use mathlib.Core.Logic.{◌↔◌, ⊎_elim}
+use mathlib.Core.Logic.{⊎_elim}
 use mathlib.Core.Bool.{cond}
 use Prim.Native.Nat.{ℕ, zero, suc, max, ◌+◌, ◌-◌, ◌*◌, ◌%◌, ◌<◌, ◌≤◌}
 use native.Mathlib.Nat.{mod-add-mod, mod-lt, mod-eq_of_lt, eq-or-lt_of_le, le_of_suc-le-suc}
@@ -44,14 +44,6 @@ pub sum_most : (n L : ℕ) (f : ℕ → ℕ) → ((k : ℕ) → k < n → f k �
 unfolding over
 sum_most zero L f h = omega arith
 sum_most (suc n) L f h = omega (arith, sum_most n L f (λ k l. h k (omega arith)), h n (omega arith))
-
--- ---- tests
-
-pub same_test : {a b c d : ℕ} → (a < b) ↔ (c < d) → ltb a b ≡ ltb c d
-same_test {a} {b} {c} {d} h = ⊎_elim
-    (λ (l : a < b). lt-ltb a b l ∙ sym (lt-ltb c d (h.0 l)))
-    (λ (g : b ≤ a). le-ltb a b g ∙ sym (⊎_elim (λ (k : c < d). absurd (omega (arith, h.1 k))) (λ (k : d ≤ c). le-ltb c d k) (lt_or_ge c d)))
-    (lt_or_ge a b)
 
 -- ---- columns
 

@@ -1,7 +1,7 @@
 -- The residue of a number with a sign by its magnitude.
 use mathlib.Core.Path.{◌≡◌, refl, ◌∙◌, subst}
 use mathlib.Core.Bool.{true, false}
-use Prim.Native.Nat.{ℕ, suc, ◌-◌, ◌%◌, ◌≤◌}
+use Prim.Native.Nat.{ℕ, suc, ◌-◌, ◌%◌}
 use native.Mathlib.Nat.{not-suc-le-zero}
 use native.Mathlib.Omega.{arith}
 use lib.Dec.{T}
@@ -17,10 +17,6 @@ use Rattle.numbers.specs.Bounds.{res}
 pub rest_is : (m x : ℕ) → (res m x).val ≡ x % prime m
 unfolding residue
 rest_is m x = refl
-
-pub below_zero : (x : ℤ) → lt_z x (pos 0) ≡ true → 1 ≤ nat_abs x
-below_zero (pos n) e = absurd (not-suc-le-zero (ltb-true n 0 e))
-below_zero (negsuc n) e = omega arith
 
 -- -(n + 1) is p - 1 - n % p
 pub residue_negative : (p r : ℕ) (x : ℤ) → lt_z x (pos 0) ≡ true → r ≡ (nat_abs x - 1) % p → p - 1 - r ≡ residue_z p x

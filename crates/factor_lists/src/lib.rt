@@ -50,6 +50,7 @@ fn put_factors(n: u32, out: &mut [u8]) -> usize
 }
 
 // 4 where it goes into n, else 5, else 3, else 2.
+#[tactic(auto, unfolding(crate::specs::Chosen::next_factor))]
 fn next_factor(n: u32) -> u32
     ensures { (result ≡ next_factor n) × (2 ≤ result) × (result ≤ 5) }
 {

@@ -29,20 +29,12 @@ fn is_factor(x: u8) -> bool
 pub fn factors_ok(factors: &[u8]) -> bool
     ensures { result ≡ factors_ok factors.now }
 {
-    let mut i: usize = 0;
-    while i < factors.len() {
-        if !is_factor(factors[i]) {
+    for factor in factors {
+        if !is_factor(*factor) {
             return false;
         }
-        i += 1;
     }
     true
-}
-
-fn wide(x: u8) -> u32
-    ensures { result ≡ x }
-{
-    x as u32
 }
 
 // Whether a factor list of any length has the product n: a partial product above n settles it.
@@ -52,13 +44,11 @@ pub fn has_product(factors: &[u8], n: u32) -> bool
     ensures { result ≡ eqb (product factors.now) n }
 {
     let mut done: u32 = 1;
-    let mut i: usize = 0;
-    while i < factors.len() {
-        done = done * wide(factors[i]);
+    for factor in factors {
+        done *= u32::from(*factor);
         if n < done {
             return false;
         }
-        i += 1;
     }
     done == n
 }
@@ -70,10 +60,8 @@ pub fn packed(factors: &[u8]) -> u32
     ensures { result ≡ octal factors.now }
 {
     let mut number: u32 = 0;
-    let mut i = factors.len();
-    while 0 < i {
-        i -= 1;
-        number = wide(factors[i]) + 8 * number;
+    for i in (0..factors.len()).rev() {
+        number = u32::from(factors[i]) + 8 * number;
     }
     number
 }

@@ -35,6 +35,7 @@ pub fn doubled(factors: u32) -> u32
 {
     let mut left = factors;
     let mut place = 1;
+    // no index is counted: the number itself says when its digits end
     while left != 0 {
         if left % 8 == 2 {
             return factors + 2 * place;

@@ -13,7 +13,13 @@ use refusals::Refusal;
 use volume::consistent::map_test;
 
 // 25, 22, 27, then the maps': each over both jobs before the next.
-pub fn check_maps(i: Job, first_map: &[u32], j: Job, second_map: &[u32], room: usize) -> Result<(), Refusal>
+pub fn check_maps(
+    i: Job,
+    first_map: &[u32],
+    j: Job,
+    second_map: &[u32],
+    room: usize,
+) -> Result<(), Refusal>
     ensures { checked_number result
         ≡ first (combine_tests i j first_map.now second_map.now room) }
 {
@@ -40,7 +46,12 @@ fn of_one_cell(i: Job, j: Job) -> bool
 }
 
 // 6, 7, 14: each over both maps before the next, 6 of the output too.
-fn check_volumes(cell: UnitCell, first_map: &[u32], second_map: &[u32], room: usize) -> Result<(), Refusal>
+fn check_volumes(
+    cell: UnitCell,
+    first_map: &[u32],
+    second_map: &[u32],
+    room: usize,
+) -> Result<(), Refusal>
     requires { Sizes cell }
     ensures { checked_number result
         ≡ first

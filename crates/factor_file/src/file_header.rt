@@ -77,7 +77,13 @@ fn judged_header(
 }
 
 // 8, 26, then 3, 4, 5, 9.
-fn check_opening(modulus: u32, cell: UnitCell, f1: &[u8], f2: &[u8], f3: &[u8]) -> Result<(), Refusal>
+fn check_opening(
+    modulus: u32,
+    cell: UnitCell,
+    f1: &[u8],
+    f2: &[u8],
+    f3: &[u8],
+) -> Result<(), Refusal>
     ensures { checked_number result
         ≡ first (opening_tests modulus (cell_header cell f1.now f2.now f3.now)) }
 {

@@ -26,7 +26,12 @@ use numbers::Pair;
 use refusals::Refusal;
 
 // The records of a file of sound shape, in a job that was opened: all are recorded, or one is refused, and the volume is left zero.
-pub fn feed_records(file: &[u8], places: Places, job: Job, volume: &mut [u32]) -> Result<Job, FileRefusal>
+pub fn feed_records(
+    file: &[u8],
+    places: Places,
+    job: Job,
+    volume: &mut [u32],
+) -> Result<Job, FileRefusal>
     requires { PlacesOf file.now places
         × (0 ≡ first (shape_tests file.now))
         × IsEmpty (job_cell job) volume.old
@@ -81,7 +86,13 @@ fn judge_records(
 }
 
 // 10, 7, 12, 24 of one record. The orbit of one that is taken is marked.
-fn judge_record(modulus: u32, cell: UnitCell, j: Index, x: Pair, marks: &mut [u32]) -> Result<(), Refusal>
+fn judge_record(
+    modulus: u32,
+    cell: UnitCell,
+    j: Index,
+    x: Pair,
+    marks: &mut [u32],
+) -> Result<(), Refusal>
     requires { IsVolume cell marks.old × IsModulus modulus }
     ensures { (before : List J) → Marked (cell_group cell) (cell_halves cell) marks.old before
         →

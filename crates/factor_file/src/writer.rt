@@ -33,9 +33,7 @@ fn write_factors(
     if out.len() < file_format::layout::file_length(modulus, f1, f2, f3, count) {
         return Err(Refusal::OutputTooShort);
     }
-    Ok(crate::file::put_file(
-        modulus, cell, f1, f2, f3, count, volume, out,
-    ))
+    Ok(crate::file::put_file(modulus, cell, f1, f2, f3, count, volume, out))
 }
 
 // The file of the job whose factors the volume holds; the places of the output beyond it are as they were. Job and volume are asked

@@ -67,7 +67,12 @@ fn check_parameters(group: u32, parameters: CellParameters) -> Result<(), Refusa
 }
 
 // 30, 18, and the file.
-fn fill(cell: UnitCell, map: &[i64], parameters: CellParameters, out: &mut [u8]) -> Result<usize, Refusal>
+fn fill(
+    cell: UnitCell,
+    map: &[i64],
+    parameters: CellParameters,
+    out: &mut [u8],
+) -> Result<usize, Refusal>
     requires { 0 ≡ first (shape_tests cell (length map.now) parameters) }
     ensures { fill_outcome result out.new
         ≡ accepted (first (fill_tests cell map.now parameters (length out.old)))

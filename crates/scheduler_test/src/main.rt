@@ -119,14 +119,7 @@ fn turned<W: Write>(
             &volume[..],
             &scratch[..],
         ),
-        Err(refusal) => print_said(
-            to,
-            of_refusal(refusal),
-            s,
-            lanes,
-            &volume[..],
-            &scratch[..],
-        ),
+        Err(refusal) => print_said(to, of_refusal(refusal), s, lanes, &volume[..], &scratch[..]),
     }
 }
 

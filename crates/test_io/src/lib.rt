@@ -261,7 +261,11 @@ pub fn print_replay<W: Write>(
 
 // What a call that fills an output answered, the refusal's number or 0 and how many places it wrote; then numbers that tell what it left.
 // How many were printed.
-pub fn print_answer<W: Write>(to: &mut W, answer: Result<usize, Refusal>, left: &[u32]) -> io::Result<usize>
+pub fn print_answer<W: Write>(
+    to: &mut W,
+    answer: Result<usize, Refusal>,
+    left: &[u32],
+) -> io::Result<usize>
     ensures count { IfOk result (λ n. n ≡ 2 + length left.now) }
     ensures text { OnOk result (Appends (W.contents to.old) (W.contents to.new)
         (answer_line_of answer left.now)) }
@@ -283,7 +287,11 @@ fn print_before<W: Write>(to: &mut W, number: u32, written: u32, left: &[u32]) -
 }
 
 // The same of a writing, which leaves bytes.
-pub fn print_writing<W: Write>(to: &mut W, answer: Result<usize, Refusal>, out: &[u8]) -> io::Result<usize>
+pub fn print_writing<W: Write>(
+    to: &mut W,
+    answer: Result<usize, Refusal>,
+    out: &[u8],
+) -> io::Result<usize>
     ensures count { IfOk result (λ n. n ≡ 3) }
     ensures text { OnOk result (Appends (W.contents to.old) (W.contents to.new)
         (answer_line_of answer (checksum_of out.now ∷ []))) }

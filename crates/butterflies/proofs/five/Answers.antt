@@ -7,6 +7,9 @@ use Rattle.butterflies.proofs.quarter_turn.Powers.{root_most}
 use Rattle.butterflies.proofs.Butterflies.{five_butterfly}
 use Rattle.butterflies.proofs.five.Goals as goal
 
+pub sum-requires : goal.sum-requires
+sum-requires c = given_both c.requires.all_room 1 (lit< tt) 4 (lit< tt)
+
 pub sum-all-requires : goal.sum-all-requires
 sum-all-requires c =
     let m = c.args.m in

@@ -12,6 +12,12 @@ use Rattle.butterflies.proofs.Given.{given, given_both}
 use Rattle.butterflies.proofs.Butterflies.{four_butterfly}
 use Rattle.butterflies.proofs.four.Goals as goal
 
+pub sum-requires : goal.sum-requires
+sum-requires c = given_both c.requires.all_room 0 (lit< tt) 2 (lit< tt)
+
+pub sum-requires-2 : goal.sum-requires-2
+sum-requires-2 c = given_both c.requires.all_room 1 (lit< tt) 3 (lit< tt)
+
 -- what the quarter turn gives
 abbrev quarter_4 : (m : ℕ) → Value m → FourSums → Value m
 quarter_4 m W v = (field m).mul (pow (field m) W 720) ((field m).add (meant m v.x1) ((field m).neg (meant m v.x3)))

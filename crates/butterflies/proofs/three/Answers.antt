@@ -2,10 +2,13 @@
 use native.Mathlib.Omega.{arith}
 use lib.Dec.{lit<}
 use Rattle.numbers.proofs.unreduced.Unreduced.{room, rooms}
-use Rattle.butterflies.proofs.Given.{given}
+use Rattle.butterflies.proofs.Given.{given, given_both}
 use Rattle.butterflies.proofs.quarter_turn.Powers.{root_most}
 use Rattle.butterflies.proofs.Butterflies.{three_butterfly}
 use Rattle.butterflies.proofs.three.Goals as goal
+
+pub sum-t-requires : goal.sum-t-requires
+sum-t-requires c = given_both c.requires.all_room 1 (lit< tt) 2 (lit< tt)
 
 pub scaled-requires : goal.scaled-requires
 scaled-requires c =

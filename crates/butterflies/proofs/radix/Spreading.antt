@@ -7,8 +7,7 @@ use Rattle.algebra.specs.ring.RingLaws.{CRing}
 use Rattle.algebra.proofs.fourier.Sums.{sum_cong}
 use Rattle.numbers.specs.declared.Pair.{Pair}
 use Rattle.numbers.specs.declared.Accumulator.{Accumulator}
-use Rattle.numbers.specs.Value.{prime, IsModulus, Value, pair_of}
-use Rattle.roots.specs.Table.{RootTable}
+use Rattle.numbers.specs.Value.{Value, pair_of}
 use Rattle.numbers.proofs.Values.{field_ring}
 use lib.ListN.{length}
 use Rattle.slices.specs.Pairs.{Below, put, puts}
@@ -38,9 +37,9 @@ module _ {R : Type 0} {𝓞 : Ops R} (𝓡 : CRing 𝓞) (W : R) where
   outer_cong B X Y c h = sum_cong 𝓡 B _ _ (λ b l. ap (𝓞.mul (e 𝓞 W B (b * c))) (h b l))
 
 -- what is asked of a radix is what the reading of each of its values asks
-pub asked : {m B : ℕ} {re im l d : List ℕ} {p : Places} → (IsModulus m × RootTable m re im) × (Reads B p l × Stores B p d × Below (prime m) l) → (b : ℕ) → b < B
-    → (IsModulus m × RootTable m re im) × ((2 * (b * p.stride + p.first) + 1 < length l) × (b * p.k < 2880) × Below (prime m) l)
-asked h b lt = (h.0, (h.1.0.inside b lt, h.1.0.exponents b lt, h.1.2))
+pub asked : {B n : ℕ} {l d : List ℕ} {p : Places} → Reads B p l × Stores B p d × Below n l → (b : ℕ) → b < B
+    → (2 * (b * p.stride + p.first) + 1 < length l) × (b * p.k < 2880) × Below n l
+asked h b lt = (h.0.inside b lt, h.0.exponents b lt, h.2)
 
 -- the values are read one after the other
 module _ {m : ℕ} {W : Value m} {p : Places} {l : List ℕ} {x0 x1 : Accumulator} (h0 : Loaded m W p l 0 x0) (h1 : Loaded m W p l 1 x1) where

@@ -1,14 +1,14 @@
 -- Read, summed and stored.
 use Rattle.butterflies.specs.Butterflies.{of_four}
 use lib.Dec.{lit<}
-use Rattle.butterflies.proofs.radix.Spreading.{spread_none, spread_next, four_loaded, butterfly_stored}
+use Rattle.butterflies.proofs.radix.Spreading.{asked, spread_none, spread_next, four_loaded, butterfly_stored}
 use Rattle.butterflies.proofs.radix.four_at.Goals as goal
 
 pub times_factor-requires-3-clause-first_in_bounds : goal.times_factor-requires-3-clause-first_in_bounds
-times_factor-requires-3-clause-first_in_bounds c = let r = c.requires.reads in (r.0.inside 2 (lit< tt), r.0.exponents 2 (lit< tt), r.2)
+times_factor-requires-3-clause-first_in_bounds c = asked c.requires.reads 2 (lit< tt)
 
 pub times_factor-requires-4-clause-first_in_bounds : goal.times_factor-requires-4-clause-first_in_bounds
-times_factor-requires-4-clause-first_in_bounds c = let r = c.requires.reads in (r.0.inside 3 (lit< tt), r.0.exponents 3 (lit< tt), r.2)
+times_factor-requires-4-clause-first_in_bounds c = asked c.requires.reads 3 (lit< tt)
 
 pub returns : goal.returns
 returns c =

@@ -8,28 +8,6 @@ use Rattle.fold_formulas.proofs.Frames.{step_inside}
 use Rattle.folds.proofs.alternating.after.Passes.{cot_by, csc_by}
 use Rattle.folds.proofs.alternating.after.angle.Goals as goal
 
-pub overflow_mul-near : goal.overflow_mul-near
-overflow_mul-near c = omega (arith, step_inside c.args.a c.args.step c.requires.step_value.1 c.requires.step_value.3)
-
-pub offset_bounds-tan-step : goal.offset_bounds-tan-step
-offset_bounds-tan-step c = omega (arith, step_inside c.args.a c.args.step c.requires.step_value.1 c.requires.step_value.3)
-
-pub bounds-tan-step : goal.bounds-tan-step
-bounds-tan-step c = step_inside c.args.a c.args.step c.requires.step_value.1 c.requires.step_value.3
-
-pub overflow_mul-far : goal.overflow_mul-far
-overflow_mul-far c =
-    let far : c.args.step * (c.args.a - c.args.s) < 1440 = step_inside c.args.a c.args.step c.requires.step_value.1 (omega arith) in
-    omega arith
-
-pub offset_bounds-tan-step-2 : goal.offset_bounds-tan-step-2
-offset_bounds-tan-step-2 c =
-    let far : c.args.step * (c.args.a - c.args.s) < 1440 = step_inside c.args.a c.args.step c.requires.step_value.1 (omega arith) in
-    omega arith
-
-pub bounds-tan-step-2 : goal.bounds-tan-step-2
-bounds-tan-step-2 c = step_inside c.args.a c.args.step c.requires.step_value.1 (omega arith)
-
 pub sub-requires : goal.sub-requires
 sub-requires c =
     let near : c.args.step * c.args.s < 1440 = step_inside c.args.a c.args.step c.requires.step_value.1 c.requires.step_value.3 in

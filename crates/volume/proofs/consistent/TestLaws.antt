@@ -93,13 +93,16 @@ module _ (g : Group) (a : J) (v : List ℕ) (h n : ℕ) where
   pub ends_left : {r : Bool} → line_kind g h ≡ antisymmetric → r ≡ below n (λ k. empty_ends g a v h k) → r ≡ below n (λ k. empty_if_left_out g a v h k)
   ends_left e f = f ∙ below_cong n _ _ (λ k l. ap (λ K. imply (ltb 0 (first_pair K)) (empty_ends g a v h k)) (sym e))
 
+pub odd_kind : (g : Group) → line_kind g 1 ≡ antisymmetric → (h : ℕ) → h % 2 ≡ 1 → line_kind g h ≡ antisymmetric
+odd_kind g e h o = odd_antisymmetric g 1 h e (odd_is h (omega arith))
+
 module _ (g : Group) (a : J) (v : List ℕ) where
   abbrev pub row_empty : ℕ → Bool
   row_empty h = below (columns g a) (λ k. empty_if_left_out g a v h k)
 
-  -- the rows before an odd h and what the code found of h; an even row has no such lines
-  pub odd_row : line_kind g 1 ≡ antisymmetric → (h : ℕ) → h % 2 ≡ 1 → line_kind g h ≡ antisymmetric
-  odd_row e h o = odd_antisymmetric g 1 h e (odd_is h (omega arith))
+  -- what the code found of an odd row; an even row has no such lines
+  pub odd_row : line_kind g 1 ≡ antisymmetric → (h : ℕ) → h % 2 ≡ 1 → {r : Bool} → r ≡ below (columns g a) (λ k. empty_ends g a v h k) → r ≡ row_empty h
+  odd_row e h o f = ends_left g a v h (columns g a) (odd_kind g e h o) f
 
   pub even_row : (h : ℕ) → h % 2 ≡ 0 → true ≡ row_empty h
   even_row h z = has_ends g a v h (columns g a) (even_other g h (even_is h z))

@@ -41,6 +41,7 @@ fn put_factors(n: u32, out: &mut [u8]) -> usize
 {
     let mut at = 0;
     let mut rest = n;
+    // A `while`: what is left of the number says when its factors end.
     while 1 < rest {
         let factor = next_factor(rest);
         at = output::put_byte(out, at, factor as u8);

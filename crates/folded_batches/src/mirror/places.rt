@@ -6,7 +6,7 @@ ghost use Rattle.batches.specs.Lanes.{UpTo};
 ghost use Rattle.batches.specs.Groups.{PutLanes};
 ghost use Rattle.folded_batches.specs.MirrorLanes.{Numbers, Raised};
 
-// The places i and j added.
+// The places i and j added. This function and the two below share the line of their `for` alone: as one with a closure each would be its closure.
 pub fn add_places(from: &[u32], i: usize, j: usize, y: &mut [u32; 32])
     requires { (32 * i + 32 ≤ length from.now) × (32 * j + 32 ≤ length from.now)
         × UpTo 1073741823 from.now × (length y.old ≡ 32) }

@@ -1,7 +1,8 @@
 // Refusal 14 of a map. A volume passes exactly if points of stored planes that are images of each other have the same
 // number, and each row ends with two zeros.
 //
-// The points are tested in the order in which they lie in the volume.
+// The points are tested in the order in which they lie in the volume. The test of factors (factor_test.rt) has loops of the same names: what they
+// share is the three lines of a `for`, and a closure's contract would be longer.
 ghost use Rattle.std.specs.Prelude.{◌≡◌, false, ◌*◌, ◌/◌, ◌<◌};
 ghost use Rattle.algebra.specs.cells.Cell.{below};
 ghost use Rattle.cell.specs.Volume.{layers};

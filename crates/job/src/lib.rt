@@ -3,8 +3,8 @@
 // The job is handed in and handed back by value at each call, beside the volume that the caller lends. Each call is a check, which
 // answers the first refusal of the paper's order, and then the work. The answer is a `Result`: the refusal, after which the job is as it was
 // handed in, or what the call gives. An opening, a record, a synthesis and an analysis give the job as it is from then on; a point of the map
-// the density there, the signed whole number next to zero; an index its factor; a power a residue. What a caller holds or hands in by value has the layout of C, so that
-// crate exported can pass it on.
+// the density there, the signed whole number next to zero; an index its factor; a power a residue. What a caller holds or hands in by value
+// has the layout of C, so that crate exported can pass it on.
 #![tactic(auto)]
 
 pub mod check; // check.rt: the refusals of every call

@@ -63,6 +63,7 @@ pub fn turn_lines<'a>(
     }
 }
 
+// The two directions gather, transform and scatter parts of other lengths, so that each has a function.
 fn synthesis_lines<'a>(
     m: u32,
     rotated: bool,

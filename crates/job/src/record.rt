@@ -10,7 +10,13 @@ use refusals::Refusal;
 
 impl Job {
     // The value a + b i goes to its index, and what it implies to the images that are stored.
-    pub fn record(self, at: Reflection, a: u32, b: u32, volume: &mut [u32]) -> Result<Job, Refusal>
+    pub fn record(
+        mut self,
+        at: Reflection,
+        a: u32,
+        b: u32,
+        volume: &mut [u32],
+    ) -> Result<Job, Refusal>
         ensures { outcome self result volume.new ≡ record_step self at a b volume.old }
     {
         let cell = self.unit_cell();

@@ -94,7 +94,7 @@ pub fn read_named<R: Read>(from: &mut R, table: &[i64], v: &mut [i64]) -> io::Re
     ensures len { length v.new ≡ length v.old }
     ensures named { OnOk result (TakesNamed (R.remaining from.old) (R.remaining from.new) table.now v.new) }
 {
-    // By places, and not `iter_mut`: an edit plants a wrong place, which must be refused.
+    // By places, and not `iter_mut`: the edit named_at_the_first_place plants a wrong place, which must be refused.
     for j in 0..v.len() {
         let mut c = [0u8; 1];
         read_bytes(from, &mut c)?;

@@ -7,7 +7,6 @@
 //
 // by additions alone; of X(A) the one part that can differ from 0 goes into pair 0.
 ghost use Rattle.std.specs.Prelude.{◌≡◌, ℕ, ◌+◌, ◌*◌, ◌/◌, ◌<◌, ◌≤◌, get_or, length};
-ghost use Rattle.algebra.specs.lines.Folds.{mate};
 ghost use Rattle.numbers.specs.Value.{prime, IsModulus};
 ghost use Rattle.batches.specs.Lanes.{UpTo};
 ghost use Rattle.folded_batches.specs.AlternatingLanes.{BlockOf, Filled, twice_pair, FirstTaken};
@@ -60,7 +59,7 @@ fn whole_block(o: u32, a: usize, twice: &[u32; 32], fold: &[u32], j: usize, y: &
     ensures { BlockOf (whole_pair o a twice.now fold.now j) 16 y.new }
 {
     let t = j / 2;
-    let k = mate_of(a, (j + 1) / 2);
+    let k = folds::alternating::after::mate_of(a, (j + 1) / 2);
     if j % 2 == 0 {
         fill_lanes(y, |v| {
             let x = lane(fold, t, v);
@@ -80,14 +79,6 @@ fn whole_block(o: u32, a: usize, twice: &[u32; 32], fold: &[u32], j: usize, y: &
             }
         });
     }
-}
-
-// The place A - t, and 0 for 0: the short transform's places are counted modulo A.
-fn mate_of(a: usize, t: usize) -> usize
-    requires { (0 < a) × (t ≤ a) }
-    ensures { (result ≡ mate a t) × (result < a) }
-{
-    if t == 0 { 0 } else { a - t }
 }
 
 // X(0) is real, and its second number is free for the one number of X(A): the real part for an even A, and the

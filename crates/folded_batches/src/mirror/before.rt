@@ -60,7 +60,7 @@ pub fn odd_sums(m: u32, first: usize, a: usize, line: &[u32]) -> [u32; 32]
     odds
 }
 
-// The place that stands for 2 t + 1.
+// The place that stands for 2 t + 1. It is computed as in alternating/before.rt, and promised in other words: those of the sum over a symmetric line.
 fn odd_place(a: usize, t: usize) -> usize
     requires { (t < a) × (a ≤ 1440) }
     ensures { (result ≤ a) × ((2 * t + 1 ≡ result) ⊎ ((2 * t + 1 + result ≡ 2 * a) × (0 < result))) }

@@ -201,7 +201,7 @@ fn line_at(m: u32, part: u32, twice: u32, a: usize, fold: &[u32], j: usize) -> P
 }
 
 // The place A - t, and 0 for 0: the short transform's places are counted modulo A.
-fn mate_of(a: usize, t: usize) -> usize
+pub fn mate_of(a: usize, t: usize) -> usize
     requires { (0 < a) × (t ≤ a) }
     ensures { (result ≡ mate a t) × (result < a) }
 {

@@ -1,9 +1,0 @@
-use Rattle.std.proofs.Common.{arith}
-use Rattle.folds.proofs.alternating.after.Back.{mate_zero, mate_rest}
-use Rattle.folded_batches.proofs.alternating.back.mate_of.Goals as goal
-
-pub returns-then-t-eq0 : goal.returns-then-t-eq0
-returns-then-t-eq0 c = (mate_zero c.args.a c.args.t c.if-t-eq0.true, omega arith)
-
-pub returns-else-t-eq0 : goal.returns-else-t-eq0
-returns-else-t-eq0 c = (mate_rest c.args.a c.args.t c.if-t-eq0.false, omega arith)

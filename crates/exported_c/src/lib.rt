@@ -4,7 +4,6 @@
 
 ghost use Rattle.std.specs.Prelude.{◌≡◌};
 ghost use Rattle.line.specs.Line.{line_step};
-ghost use Rattle.line.specs.Answers.{said_line};
 ghost use Rattle.job.specs.Job.{open_step, record_step, synthesis_step, analysis_step, point_step, factor_step};
 ghost use Rattle.job.specs.Job.{position, map_power_step, factor_power_step};
 ghost use Rattle.factor_file.specs.File.{file_step, write_step, length_step};

@@ -11,8 +11,7 @@ ghost use Rattle.factor_file.specs.Steps.{filed_with, IsFactors};
 
 use crate::file::records;
 use cell::operations::UnitCell;
-use job::check::synthesis;
-use job::{Job, valid};
+use job::Job;
 use refusals::Refusal;
 
 // 18, and the file. Where all factors are zero it is a file of no records.
@@ -42,14 +41,7 @@ pub fn write_file(job: Job, volume: &[u32], out: &mut [u8]) -> Result<usize, Ref
     ensures { fill_outcome result out.new ≡ write_step job volume.now out.old }
 {
     let cell = job.unit_cell();
-    synthesis::check_synthesis(
-        valid::valid_job(job),
-        job.state,
-        job.modulus,
-        cell,
-        volume,
-        11520,
-    )?;
+    job.check_synthesis(volume, 11520)?;
     write_factors(
         job.modulus,
         cell,
@@ -66,14 +58,7 @@ pub fn file_length(job: Job, volume: &[u32]) -> Result<usize, Refusal>
     ensures { said_size result ≡ length_step job volume.now }
 {
     let cell = job.unit_cell();
-    synthesis::check_synthesis(
-        valid::valid_job(job),
-        job.state,
-        job.modulus,
-        cell,
-        volume,
-        11520,
-    )?;
+    job.check_synthesis(volume, 11520)?;
     let count = records::count_records(job.modulus, cell, volume);
     Ok(file_format::layout::file_length(
         job.modulus,

@@ -3,7 +3,7 @@ ghost use Rattle.std.specs.Prelude.{◌≡◌};
 ghost use Rattle.job.specs.Job.{analysis_step};
 ghost use Rattle.job.specs.Answers.{worked};
 
-use crate::{Job, plan, valid};
+use crate::{Job, plan};
 use refusals::Refusal;
 
 impl Job {
@@ -12,15 +12,7 @@ impl Job {
         ensures { worked self result volume.new scratch.new
             ≡ analysis_step self volume.old scratch.old }
     {
-        let cell = self.unit_cell();
-        crate::check::analysis::check_analysis(
-            valid::valid_job(self),
-            self.state,
-            self.modulus,
-            cell,
-            &volume[..],
-            scratch.len(),
-        )?;
+        self.check_analysis(&volume[..], scratch.len())?;
         volume_transform::transform_volume(plan::plan_of(self, 1), volume, scratch);
         self.state = 1;
         Ok(self)

@@ -3,7 +3,7 @@ ghost use Rattle.std.specs.Prelude.{◌≡◌};
 ghost use Rattle.job.specs.Job.{factor_step};
 ghost use Rattle.job.specs.Answers.{said_factor};
 
-use crate::{Job, Reflection, valid};
+use crate::{Job, Reflection};
 use cell::operations::Index;
 use numbers::Pair;
 use refusals::Refusal;
@@ -19,14 +19,7 @@ impl Job {
             k: at.1,
             l: at.2,
         };
-        crate::check::factor::check_factor(
-            valid::valid_job(self),
-            self.state,
-            self.modulus,
-            cell,
-            j,
-            volume,
-        )?;
+        self.check_factor(j, volume)?;
         Ok(volume::read::factor_at(self.modulus, cell, j, volume))
     }
 }

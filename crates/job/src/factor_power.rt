@@ -3,7 +3,7 @@ ghost use Rattle.std.specs.Prelude.{◌≡◌};
 ghost use Rattle.job.specs.Job.{factor_power_step};
 ghost use Rattle.job.specs.Answers.{said_power};
 
-use crate::{Job, valid};
+use crate::Job;
 use refusals::Refusal;
 
 impl Job {
@@ -11,15 +11,7 @@ impl Job {
     pub fn factor_power(self, volume: &[u32]) -> Result<u32, Refusal>
         ensures { said_power result ≡ (factor_power_step self volume.now).answer }
     {
-        let cell = self.unit_cell();
-        crate::check::synthesis::check_synthesis(
-            valid::valid_job(self),
-            self.state,
-            self.modulus,
-            cell,
-            volume,
-            11520,
-        )?;
-        Ok(power::factor_power(self.modulus, cell, volume))
+        self.check_synthesis(volume, 11520)?;
+        Ok(power::factor_power(self.modulus, self.unit_cell(), volume))
     }
 }

@@ -3,7 +3,7 @@ ghost use Rattle.std.specs.Prelude.{◌≡◌};
 ghost use Rattle.job.specs.Job.{map_power_step};
 ghost use Rattle.job.specs.Answers.{said_power};
 
-use crate::{Job, valid};
+use crate::Job;
 use refusals::Refusal;
 
 impl Job {
@@ -11,15 +11,7 @@ impl Job {
     pub fn map_power(self, volume: &[u32]) -> Result<u32, Refusal>
         ensures { said_power result ≡ (map_power_step self volume.now).answer }
     {
-        let cell = self.unit_cell();
-        crate::check::analysis::check_analysis(
-            valid::valid_job(self),
-            self.state,
-            self.modulus,
-            cell,
-            volume,
-            11520,
-        )?;
-        Ok(power::map_power(self.modulus, cell, volume))
+        self.check_analysis(volume, 11520)?;
+        Ok(power::map_power(self.modulus, self.unit_cell(), volume))
     }
 }

@@ -3,7 +3,7 @@ ghost use Rattle.std.specs.Prelude.{◌≡◌};
 ghost use Rattle.job.specs.Job.{point_step};
 ghost use Rattle.job.specs.Answers.{said_point};
 
-use crate::{GridPoint, Job, valid};
+use crate::{GridPoint, Job};
 use cell::operations::Point;
 use cell::places;
 use refusals::Refusal;
@@ -19,14 +19,7 @@ impl Job {
             y: at.1,
             z: at.2,
         };
-        crate::check::point::check_point(
-            valid::valid_job(self),
-            self.state,
-            self.modulus,
-            cell,
-            point,
-            volume,
-        )?;
+        self.check_point(point, volume)?;
         let place = places::density_place(cell, point);
         Ok(signed::centre(numbers::modulus(self.modulus), volume[place]))
     }

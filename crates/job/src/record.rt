@@ -3,7 +3,7 @@ ghost use Rattle.std.specs.Prelude.{◌≡◌};
 ghost use Rattle.job.specs.Job.{record_step};
 ghost use Rattle.job.specs.Answers.{outcome};
 
-use crate::{Job, Reflection, valid};
+use crate::{Job, Reflection};
 use cell::operations::Index;
 use numbers::Pair;
 use refusals::Refusal;
@@ -26,15 +26,7 @@ impl Job {
             l: at.2,
         };
         let x = Pair { re: a, im: b };
-        crate::check::record::check_record(
-            valid::valid_job(self),
-            self.state,
-            self.modulus,
-            cell,
-            j,
-            x,
-            &volume[..],
-        )?;
+        self.check_record(j, x, &volume[..])?;
         volume::record::write_images(self.modulus, cell, j, x, volume);
         Ok(self)
     }

@@ -3,7 +3,7 @@ ghost use Rattle.std.specs.Prelude.{◌≡◌};
 ghost use Rattle.job.specs.Job.{synthesis_step};
 ghost use Rattle.job.specs.Answers.{worked};
 
-use crate::{Job, plan, valid};
+use crate::{Job, plan};
 use refusals::Refusal;
 
 impl Job {
@@ -12,15 +12,7 @@ impl Job {
         ensures { worked self result volume.new scratch.new
             ≡ synthesis_step self volume.old scratch.old }
     {
-        let cell = self.unit_cell();
-        crate::check::synthesis::check_synthesis(
-            valid::valid_job(self),
-            self.state,
-            self.modulus,
-            cell,
-            &volume[..],
-            scratch.len(),
-        )?;
+        self.check_synthesis(&volume[..], scratch.len())?;
         volume_transform::transform_volume(plan::plan_of(self, 0), volume, scratch);
         self.state = 2;
         Ok(self)

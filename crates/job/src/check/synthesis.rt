@@ -3,11 +3,13 @@ ghost use Rattle.std.specs.Prelude.{◌≡◌, true};
 ghost use Rattle.numbers.specs.Value.{IsModulus};
 ghost use Rattle.refusals.specs.Refusals.{first};
 ghost use Rattle.refusals.specs.Checks.{checked_number};
-ghost use Rattle.cell.specs.Operations.{cell_lengths, Sizes};
+ghost use Rattle.cell.specs.Operations.{cell_lengths};
 ghost use Rattle.cell.specs.TestSteps.{IsVolume};
-ghost use Rattle.job.specs.Job.{factors_tests, synthesis_tests_of};
+ghost use Rattle.job.specs.Job.{factors_tests, valid_job};
+ghost use Rattle.job.specs.TestSteps.{synthesis_tests};
 
 use crate::check::tests;
+use crate::{Job, valid};
 use cell::operations::UnitCell;
 use refusals::Refusal;
 use volume::consistent::factor_test;
@@ -27,31 +29,32 @@ fn check_factors(modulus: u32, cell: UnitCell, volume: &[u32]) -> Result<(), Ref
     Ok(())
 }
 
-// 25, 23, 6, 13, then the factors'.
-pub fn check_synthesis(
-    valid: bool,
-    state: u32,
-    modulus: u32,
-    cell: UnitCell,
-    volume: &[u32],
-    scratch: usize,
-) -> Result<(), Refusal>
-    requires { valid ≡ true → Sizes cell × IsModulus modulus }
-    ensures { checked_number result
-        ≡ first
-        (synthesis_tests_of valid state modulus cell.group (cell_lengths cell) volume.now scratch) }
-{
-    if !valid {
-        return Err(Refusal::ImpossibleJob);
+impl Job {
+    // 25, then those of a valid job.
+    pub fn check_synthesis(self, volume: &[u32], scratch: usize) -> Result<(), Refusal>
+        ensures { checked_number result ≡ first (synthesis_tests self volume.now scratch) }
+    {
+        if !valid::valid_job(self) {
+            return Err(Refusal::ImpossibleJob);
+        }
+        self.check_valid_synthesis(volume, scratch)
     }
-    if state == 2 {
-        return Err(Refusal::NoFactors);
+
+    // Of a job that was found valid: 23, 6, 13, then the factors'.
+    pub fn check_valid_synthesis(self, volume: &[u32], scratch: usize) -> Result<(), Refusal>
+        requires { valid_job self ≡ true }
+        ensures { checked_number result ≡ first (synthesis_tests self volume.now scratch) }
+    {
+        if self.state == 2 {
+            return Err(Refusal::NoFactors);
+        }
+        let cell = self.unit_cell();
+        if !tests::fits(cell, volume) {
+            return Err(Refusal::BufferLength);
+        }
+        if scratch < 11520 {
+            return Err(Refusal::ScratchTooShort);
+        }
+        check_factors(self.modulus, cell, volume)
     }
-    if !tests::fits(cell, volume) {
-        return Err(Refusal::BufferLength);
-    }
-    if scratch < 11520 {
-        return Err(Refusal::ScratchTooShort);
-    }
-    check_factors(modulus, cell, volume)
 }

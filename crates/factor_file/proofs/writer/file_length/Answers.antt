@@ -1,7 +1,6 @@
 -- Refused by the check, or the length of the file whose records were counted.
 use native.Mathlib.Omega.{arith}
-use mathlib.Core.Path.{◌≡◌, sym, ◌∙◌, ap, ap₂}
-use mathlib.Core.Bool.{Bool}
+use mathlib.Core.Path.{◌≡◌, ◌∙◌, ap}
 use mathlib.Core.List.{List}
 use Prim.Native.Nat.{ℕ, ◌≤◌}
 use lib.ListN.{length}
@@ -12,22 +11,16 @@ use Rattle.slices.proofs.Bounds.{below_all_below}
 use Rattle.refusals.specs.Refusals.{first}
 use Rattle.refusals.proofs.Handed.{handed_on}
 use Rattle.refusals.proofs.Tests.{passed}
-use Rattle.lengths.specs.Lengths.{scratch_length}
 use Rattle.cell.specs.declared.operations.UnitCell.{UnitCell}
-use Rattle.cell.specs.Operations.{cell_lengths}
 use Rattle.job.specs.declared.Job.{Job}
-use Rattle.job.specs.Job.{job_cell, valid_job, synthesis_tests_of}
-use Rattle.job.proofs.Jobs.{valid_sizes, valid_modulus, cell_sizes}
+use Rattle.job.specs.Job.{job_cell}
+use Rattle.job.proofs.Jobs.{valid_sizes, valid_modulus}
 use Rattle.factor_file.specs.Answers.{said_size}
 use Rattle.factor_file.specs.File.{held_tests}
 use Rattle.factor_file.specs.Steps.{IsFactors, records_with}
 use Rattle.factor_file.proofs.file.RecordLaws.{admitted_few}
 use Rattle.factor_file.proofs.writer.Files.{size_first, size_refused, size_told, valid_volume}
 use Rattle.factor_file.proofs.writer.file_length.Goals as goal
-
--- the first test that holds, in the job's own words
-told : (j : Job) (v : List ℕ) (b : Bool) (k : UnitCell) {n : ℕ} → n ≡ first (synthesis_tests_of b j.state j.modulus k.group (cell_lengths k) v scratch_length) → b ≡ valid_job j → k ≡ job_cell j → n ≡ first (held_tests j v)
-told j v b k e p q = e ∙ ap₂ (λ (b : Bool) (k : UnitCell). first (synthesis_tests_of b j.state j.modulus k.group (cell_lengths k) v scratch_length)) p q ∙ size_first j v
 
 -- where none holds, the volume holds factors, and no more of them than an opening admits
 sound : (j : Job) (v : List ℕ) → 0 ≡ first (held_tests j v) → IsFactors j.modulus (job_cell j) v × (length v ≤ 16777216)
@@ -41,27 +34,24 @@ sound j v e =
 counted : (j : Job) (v : List ℕ) (k : UnitCell) {n : ℕ} → n ≡ length (records_with k j.modulus v) → k ≡ job_cell j → n ≡ length (records_with (job_cell j) j.modulus v)
 counted j v k e q = e ∙ ap (λ (k : UnitCell). length (records_with k j.modulus v)) q
 
-pub check_synthesis-requires : goal.check_synthesis-requires
-check_synthesis-requires c e = cell_sizes c.args.job c.unit_cell-cell.ensures (sym c.valid_job.ensures ∙ e)
-
 pub returns-in_err-check_synthesis : goal.returns-in_err-check_synthesis
 returns-in_err-check_synthesis c =
     ap said_size (handed_on _ _ c.from_residual.ensures.1)
-    ∙ size_refused c.args.job c.args.volume.now _ (told c.args.job c.args.volume.now _ _ c.in_err-check_synthesis.ensures c.valid_job.ensures c.unit_cell-cell.ensures)
+    ∙ size_refused c.args.job c.args.volume.now _ (c.in_err-check_synthesis.ensures ∙ size_first c.args.job c.args.volume.now)
 
 pub count_records-count-requires : goal.count_records-count-requires
 count_records-count-requires c =
-    rw c.unit_cell-cell.ensures (sound c.args.job c.args.volume.now (told c.args.job c.args.volume.now _ _ c.in_ok-check_synthesis.ensures c.valid_job.ensures c.unit_cell-cell.ensures)).0
+    rw c.unit_cell-cell.ensures (sound c.args.job c.args.volume.now (c.in_ok-check_synthesis.ensures ∙ size_first c.args.job c.args.volume.now)).0
 
 pub file_length-requires : goal.file_length-requires
 file_length-requires c =
     let a = c.args in
-    let s = sound a.job a.volume.now (told a.job a.volume.now _ _ c.in_ok-check_synthesis.ensures c.valid_job.ensures c.unit_cell-cell.ensures) in
+    let s = sound a.job a.volume.now (c.in_ok-check_synthesis.ensures ∙ size_first c.args.job c.args.volume.now) in
     omega (arith, counted a.job a.volume.now _ c.count_records-count.ensures c.unit_cell-cell.ensures, admitted_few s.0.volume.sizes a.job.modulus a.volume.now s.0.volume.long s.1)
 
 pub returns : goal.returns
 returns c =
     let a = c.args in
     let j = a.job in
-    size_told j a.volume.now (told j a.volume.now _ _ c.in_ok-check_synthesis.ensures c.valid_job.ensures c.unit_cell-cell.ensures)
+    size_told j a.volume.now (c.in_ok-check_synthesis.ensures ∙ size_first j a.volume.now)
     (c.file_length.ensures.0 j.group j.a.length j.b.length j.c.length (records_with (job_cell j) j.modulus a.volume.now) (counted j a.volume.now _ c.count_records-count.ensures c.unit_cell-cell.ensures))

@@ -1,44 +1,30 @@
 -- Refused by the check, or the sum over the stored numbers.
-use mathlib.Core.Path.{◌≡◌, ◌∙◌, sym, ap, ap₂}
-use mathlib.Core.Bool.{Bool}
-use mathlib.Core.List.{List}
-use Prim.Native.Nat.{ℕ}
-use Rattle.refusals.specs.Refusals.{first}
+use mathlib.Core.Path.{◌∙◌, ap}
 use Rattle.refusals.proofs.Handed.{handed_on}
 use Rattle.cell.specs.declared.operations.UnitCell.{UnitCell}
-use Rattle.job.specs.declared.Job.{Job}
-use Rattle.cell.specs.Operations.{cell_group, cell_halves, cell_lengths}
+use Rattle.cell.specs.Operations.{cell_group, cell_halves}
 use Rattle.lengths.specs.Lengths.{scratch_length}
 use Rattle.power.specs.Power.{factor_power}
-use Rattle.job.specs.Job.{valid_job, job_cell, synthesis_tests_of}
-use Rattle.job.specs.TestSteps.{synthesis_tests}
 use Rattle.job.specs.Answers.{said_power}
-use Rattle.job.proofs.Jobs.{valid_modulus, valid_sizes, cell_sizes}
+use Rattle.job.proofs.Jobs.{valid_modulus, valid_sizes}
 use Rattle.job.proofs.Volumes.{synthesis_ready}
 use Rattle.job.proofs.Powers.{as_synthesis, factor_power_refused, factor_power_said}
 use Rattle.job.proofs.Job.factor_power.Goals as goal
 
--- the first test that holds, in the job's own words
-told : (j : Job) (v : List ℕ) (b : Bool) (k : UnitCell) {n : ℕ} → n ≡ first (synthesis_tests_of b j.state j.modulus k.group (cell_lengths k) v scratch_length) → b ≡ valid_job j → k ≡ job_cell j → n ≡ first (synthesis_tests j v scratch_length)
-told j v b k e p q = e ∙ ap₂ (λ (b : Bool) (k : UnitCell). first (synthesis_tests_of b j.state j.modulus k.group (cell_lengths k) v scratch_length)) p q
-
-pub check_synthesis-requires : goal.check_synthesis-requires
-check_synthesis-requires c e = cell_sizes c.args.self c.unit_cell-cell.ensures (sym c.valid_job.ensures ∙ e)
-
 pub factor_power-requires : goal.factor_power-requires
 factor_power-requires c =
     let j = c.args.self in
-    let r = synthesis_ready j c.args.volume.now scratch_length (told j c.args.volume.now _ _ c.in_ok-check_synthesis.ensures c.valid_job.ensures c.unit_cell-cell.ensures) in
+    let r = synthesis_ready j c.args.volume.now scratch_length c.in_ok-check_synthesis.ensures in
     let v = r.0.valid in
-    rw c.unit_cell-cell.ensures (record { volume = (record { sizes = valid_sizes j v; long = r.0.long }, valid_modulus j v, r.0.small); volume_value = r.1 })
+    rw c.unit_cell.ensures (record { volume = (record { sizes = valid_sizes j v; long = r.0.long }, valid_modulus j v, r.0.small); volume_value = r.1 })
 
 pub returns-in_err-check_synthesis : goal.returns-in_err-check_synthesis
 returns-in_err-check_synthesis c =
     ap said_power (handed_on _ _ c.from_residual.ensures.1)
-    ∙ factor_power_refused c.args.self c.args.volume.now _ (told c.args.self c.args.volume.now _ _ c.in_err-check_synthesis.ensures c.valid_job.ensures c.unit_cell-cell.ensures ∙ as_synthesis c.args.self c.args.volume.now)
+    ∙ factor_power_refused c.args.self c.args.volume.now _ (c.in_err-check_synthesis.ensures ∙ as_synthesis c.args.self c.args.volume.now)
 
 pub returns : goal.returns
 returns c =
     let a = c.args in
-    factor_power_said a.self a.volume.now c.factor_power.result (told a.self a.volume.now _ _ c.in_ok-check_synthesis.ensures c.valid_job.ensures c.unit_cell-cell.ensures ∙ as_synthesis a.self a.volume.now)
-    (c.factor_power.ensures ∙ ap (λ (k : UnitCell). factor_power (cell_group k) (cell_halves k) a.self.modulus a.volume.now) c.unit_cell-cell.ensures)
+    factor_power_said a.self a.volume.now c.factor_power.result (c.in_ok-check_synthesis.ensures ∙ as_synthesis a.self a.volume.now)
+    (c.factor_power.ensures ∙ ap (λ (k : UnitCell). factor_power (cell_group k) (cell_halves k) a.self.modulus a.volume.now) c.unit_cell.ensures)

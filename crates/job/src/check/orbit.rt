@@ -2,7 +2,6 @@
 //
 // Each test is one loop over the operations of the orbit, with a function for what one operation asks. They write nothing.
 ghost use Rattle.std.specs.Prelude.{◌≡◌, length};
-ghost use Rattle.algebra.specs.cells.Cell.{same_j};
 ghost use Rattle.numbers.specs.Value.{prime, IsModulus, value_of};
 ghost use Rattle.numbers.specs.Bounds.{Small};
 ghost use Rattle.refusals.specs.Refusals.{first};
@@ -54,17 +53,11 @@ fn agrees_under(m: u32, o: Operation, cell: UnitCell, j: Index, x: Pair) -> bool
     requires sizes { Sizes cell × Within cell j }
     ensures { result ≡ agrees_under (cell_halves cell) m (triple_of j) (value_of m x) (sym_of o) }
 {
-    if same_index(operations::image(o, cell, j), j) {
-        volume::stored::same(operations::implied(m, o, j, x), x)
+    if operations::image(o, cell, j) == j {
+        operations::implied(m, o, j, x) == x
     } else {
         true
     }
-}
-
-fn same_index(i: Index, j: Index) -> bool
-    ensures { result ≡ same_j (triple_of i) (triple_of j) }
-{
-    (i.h == j.h) & ((i.k == j.k) & (i.l == j.l))
 }
 
 // The numbers that hold part of the record's orbit are zero: those of each image are below 1.

@@ -35,9 +35,6 @@ module _ (a : J) (m : ℕ) (j : J) (s : Sym) {i : J} (e : i ≡ image_of a s j) 
   pub same_agrees : (x : Pair) → Small (prime m) x → t ≡ true → {y : Pair} → y ≡ pair_of (implied_value (field m) (conj m) s j (value_of m x)) → {r : Bool} → r ≡ (eqb y.re x.re && eqb y.im x.im) → r ≡ agrees_under a m j (value_of m x) s
   same_agrees x l q p r = rw (own_index true q) (r ∙ same_pair_lem m (implied_value (field m) (conj m) s j (value_of m x)) l p)
 
-  pub other_agrees : (x : Value m) → t ≡ false → true ≡ agrees_under a m j x s
-  other_agrees x q = rw (own_index false q) refl
-
 -- ---- an orbit that is free
 
 -- the test of one operation: the numbers of the image are below 1

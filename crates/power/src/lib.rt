@@ -12,18 +12,20 @@ ghost use Rattle.cell.specs.Volume.{layers};
 ghost use Rattle.cell.specs.Consistency.{consistent_factors};
 ghost use Rattle.cell.specs.Operations.{cell_group, cell_halves, Sizes};
 ghost use Rattle.cell.specs.TestSteps.{IsVolume};
+ghost use Rattle.cell.specs.Residues.{on};
 ghost use Rattle.power.specs.Power.{map_power, factor_power};
 ghost use Rattle.power.specs.PowerSteps.{layer_twice, squares, row_power, layer_power, stored_power};
 
 use cell::operations::UnitCell;
 use cell::places;
+use cell::residues::Residues;
 
 // The sum of the squares of a map of residues.
 pub fn map_power(m: u32, cell: UnitCell, volume: &[u32]) -> u32
     requires { IsVolume cell volume.now × IsModulus m × Below (prime m) volume.now }
     ensures { result ≡ map_power (cell_group cell) (cell_halves cell) m volume.now }
 {
-    stored_power(m, cell, true, volume)
+    stored_power(&Residues { m, cell, volume }, true)
 }
 
 // The sum of F × conj F of consistent factors: the pairs that are no part of a line are zero, and count for nothing.
@@ -32,7 +34,7 @@ pub fn factor_power(m: u32, cell: UnitCell, volume: &[u32]) -> u32
     requires volume_value { consistent_factors (cell_group cell) (cell_halves cell) m volume.now ≡ true }
     ensures { result ≡ factor_power (cell_group cell) (cell_halves cell) m volume.now }
 {
-    stored_power(m, cell, false, volume)
+    stored_power(&Residues { m, cell, volume }, false)
 }
 
 // The squares of some neighbouring numbers, not reduced.
@@ -49,29 +51,31 @@ fn square_sum(volume: &[u32], start: usize, count: usize) -> u64
 }
 
 // A row of a map: its N2 numbers, without the two zeros.
-fn map_row(m: u32, cell: UnitCell, volume: &[u32], w: u32, h: u32) -> u32
-    requires volume { IsVolume cell volume.now × IsModulus m × Below (prime m) volume.now }
-    requires w_bound { (w < layers (cell_group cell) (cell_halves cell)) × (h < cell.n1) }
-    ensures { result ≡ (row_power (cell_group cell) (cell_halves cell) m volume.now true w h).val }
+fn map_row(r: &Residues, w: u32, h: u32) -> u32
+    requires { (w < layers (cell_group r.now.cell) (cell_halves r.now.cell)) × (h < r.now.cell.n1) }
+    ensures { result ≡ (on row_power r.now true w h).val }
 {
-    let start = 2 * places::pair_place(cell, w, h, 0);
-    numbers::reduce_below(m, square_sum(volume, start, cell.n2 as usize))
+    let start = 2 * places::pair_place(r.cell, w, h, 0);
+    numbers::reduce_below(r.m, square_sum(r.volume, start, r.cell.n2 as usize))
 }
 
 // A row of factors: the pairs 0 and B once, those between, which stand for k and -k, twice.
-fn factor_row(m: u32, cell: UnitCell, volume: &[u32], w: u32, h: u32) -> u32
-    requires volume { IsVolume cell volume.now × IsModulus m × Below (prime m) volume.now }
-    requires w_bound { (w < layers (cell_group cell) (cell_halves cell)) × (h < cell.n1) }
-    ensures { result ≡ (row_power (cell_group cell) (cell_halves cell) m volume.now false w h).val }
+fn factor_row(r: &Residues, w: u32, h: u32) -> u32
+    requires { (w < layers (cell_group r.now.cell) (cell_halves r.now.cell)) × (h < r.now.cell.n1) }
+    ensures { result ≡ (on row_power r.now false w h).val }
 {
-    let first = square_sum(volume, 2 * places::pair_place(cell, w, h, 0), 2);
-    let last = square_sum(volume, 2 * places::pair_place(cell, w, h, cell.n2 / 2), 2);
-    let inner = square_sum(
-        volume,
-        2 * places::pair_place(cell, w, h, 1),
-        (cell.n2 - 2) as usize,
+    let first = square_sum(r.volume, 2 * places::pair_place(r.cell, w, h, 0), 2);
+    let last = square_sum(
+        r.volume,
+        2 * places::pair_place(r.cell, w, h, r.cell.n2 / 2),
+        2,
     );
-    numbers::reduce_below(m, (first + last) + (inner + inner))
+    let inner = square_sum(
+        r.volume,
+        2 * places::pair_place(r.cell, w, h, 1),
+        (r.cell.n2 - 2) as usize,
+    );
+    numbers::reduce_below(r.m, (first + last) + (inner + inner))
 }
 
 // Layer w stands twice in the cell.
@@ -91,45 +95,42 @@ fn layer_twice(cell: UnitCell, density: bool, w: u32) -> bool
 }
 
 // Layer w: its rows, as often as they stand in the cell.
-fn layer_power(m: u32, cell: UnitCell, density: bool, volume: &[u32], w: u32) -> u32
-    requires volume { IsVolume cell volume.now × IsModulus m × Below (prime m) volume.now }
-    requires w_bound { w < layers (cell_group cell) (cell_halves cell) }
-    ensures { result ≡ (layer_power (cell_group cell) (cell_halves cell) m volume.now density w).val }
+fn layer_power(r: &Residues, density: bool, w: u32) -> u32
+    requires { w < layers (cell_group r.now.cell) (cell_halves r.now.cell) }
+    ensures { result ≡ (on layer_power r.now density w).val }
 {
     let mut total = 0;
-    for h in 0..cell.n1 {
-        let row = row_power(m, cell, density, volume, w, h);
-        total = numbers::add(m, total, row);
+    for h in 0..r.cell.n1 {
+        let row = row_power(r, density, w, h);
+        total = numbers::add(r.m, total, row);
     }
-    if layer_twice(cell, density, w) {
-        numbers::add(m, total, total)
+    if layer_twice(r.cell, density, w) {
+        numbers::add(r.m, total, total)
     } else {
         total
     }
 }
 
 // A row of the one or the other.
-fn row_power(m: u32, cell: UnitCell, density: bool, volume: &[u32], w: u32, h: u32) -> u32
-    requires volume { IsVolume cell volume.now × IsModulus m × Below (prime m) volume.now }
-    requires w_bound { (w < layers (cell_group cell) (cell_halves cell)) × (h < cell.n1) }
-    ensures { result ≡ (row_power (cell_group cell) (cell_halves cell) m volume.now density w h).val }
+fn row_power(r: &Residues, density: bool, w: u32, h: u32) -> u32
+    requires { (w < layers (cell_group r.now.cell) (cell_halves r.now.cell)) × (h < r.now.cell.n1) }
+    ensures { result ≡ (on row_power r.now density w h).val }
 {
     if density {
-        map_row(m, cell, volume, w, h)
+        map_row(r, w, h)
     } else {
-        factor_row(m, cell, volume, w, h)
+        factor_row(r, w, h)
     }
 }
 
 // All layers.
-fn stored_power(m: u32, cell: UnitCell, density: bool, volume: &[u32]) -> u32
-    requires { IsVolume cell volume.now × IsModulus m × Below (prime m) volume.now }
-    ensures { result ≡ (stored_power (cell_group cell) (cell_halves cell) m volume.now density).val }
+fn stored_power(r: &Residues, density: bool) -> u32
+    ensures { result ≡ (on stored_power r.now density).val }
 {
     let mut total = 0;
-    for w in 0..places::layer_count(cell) {
-        let layer = layer_power(m, cell, density, volume, w);
-        total = numbers::add(m, total, layer);
+    for w in 0..places::layer_count(r.cell) {
+        let layer = layer_power(r, density, w);
+        total = numbers::add(r.m, total, layer);
     }
     total
 }

@@ -7,10 +7,10 @@ pub loop-w-init : goal.loop-w-init
 loop-w-init c = adding_start
 
 pub add-total-requires : goal.add-total-requires
-add-total-requires c = (c.requires.1, adding_small c.loop-w.invariant, item_small c.loop-w.invariant c.layer_power-layer.ensures)
+add-total-requires c = (c.args.r.now.modulus, adding_small c.loop-w.invariant, item_small c.loop-w.invariant c.layer_power-layer.ensures)
 
 pub loop-w-preserved : goal.loop-w-preserved
 loop-w-preserved c = adding_next c.loop-w.invariant c.layer_power-layer.ensures c.add-total.ensures
 
 pub returns : goal.returns
-returns c = layers_added _ _ c.args.m _ c.args.density (adding_done c.loop-w.invariant (omega (arith, c.layer_count-w-end.ensures)))
+returns c = layers_added _ _ c.args.r.now.m _ c.args.density (adding_done c.loop-w.invariant (omega (arith, c.layer_count-w-end.ensures)))

@@ -10,10 +10,12 @@ ghost use Rattle.slices.specs.Pairs.{Below};
 ghost use Rattle.cell.specs.Volume.{line_kind};
 ghost use Rattle.cell.specs.Consistency.{line_agrees, consistent_factors};
 ghost use Rattle.cell.specs.Operations.{cell_group, cell_halves, triple_of, sym_of};
+ghost use Rattle.cell.specs.Residues.{on};
 ghost use Rattle.cell.specs.TestSteps.{IsVolume, IsStored, mirrored, image_agrees, line_row_agrees, row_ends_agree};
 ghost use Rattle.cell.specs.TestSteps.{InnerAgree, lines_agree, empty_ends, left_out_empty};
 
 use cell::operations::{Index, Operation, UnitCell};
+use cell::residues::Residues;
 use cell::{operations, places};
 
 // The volume is the packed factors of some cell that obeys group and Friedel.
@@ -22,21 +24,20 @@ pub fn consistent_factors(m: u32, cell: UnitCell, volume: &[u32]) -> bool
     ensures { result ≡ consistent_factors (cell_group cell) (cell_halves cell) m volume.now }
 {
     // a group has antisymmetric lines at h = 1 or nowhere
-    factors_agree(m, cell, volume)
+    factors_agree(&Residues { m, cell, volume })
         && (places::line_kind(cell.group, 1) != 5 || odd_rows_empty(cell, volume))
 }
 
 // The image of j under o, where it is stored, has the value that the factor at j implies.
-fn image_agrees(m: u32, cell: UnitCell, volume: &[u32], o: Operation, j: Index) -> bool
-    requires { IsVolume cell volume.now × IsModulus m × Below (prime m) volume.now × IsStored cell j }
-    ensures { result
-        ≡ image_agrees (cell_group cell) (cell_halves cell) m volume.now (triple_of j) (sym_of o) }
+fn image_agrees(r: &Residues, o: Operation, j: Index) -> bool
+    requires { IsStored r.now.cell j }
+    ensures { result ≡ on image_agrees r.now (triple_of j) (sym_of o) }
 {
-    let i = operations::image(o, cell, j);
-    if places::is_stored(cell, i) {
-        let x = crate::stored::stored_value(m, cell, volume, j);
-        let y = crate::stored::stored_value(m, cell, volume, i);
-        crate::stored::same(y, operations::implied(m, o, j, x))
+    let i = operations::image(o, r.cell, j);
+    if places::is_stored(r.cell, i) {
+        let x = crate::stored::stored_value(r.m, r.cell, r.volume, j);
+        let y = crate::stored::stored_value(r.m, r.cell, r.volume, i);
+        crate::stored::same(y, operations::implied(r.m, o, j, x))
     } else {
         true
     }
@@ -44,40 +45,34 @@ fn image_agrees(m: u32, cell: UnitCell, volume: &[u32], o: Operation, j: Index) 
 
 // Every stored image of j agrees. Between the ends of k and of l one operation of P2₁2₁2₁ alone leads to a stored index, the last: it changes
 // the sign of h and no other. It leads back from -h to h, so that beyond N1/2 it has been tried at -h.
-fn factor_agrees(m: u32, cell: UnitCell, volume: &[u32], j: Index) -> bool
-    requires volume { IsVolume cell volume.now × IsModulus m × Below (prime m) volume.now × IsStored cell j }
-    requires l_value { cell.n1 / 2 < j.h →
-        line_agrees (cell_group cell) (cell_halves cell) m volume.now (neg_i (cell.n1 / 2) j.h, j.k, j.l)
-        ≡ true }
-    ensures { result ≡ line_agrees (cell_group cell) (cell_halves cell) m volume.now (triple_of j) }
+fn factor_agrees(r: &Residues, j: Index) -> bool
+    requires stored { IsStored r.now.cell j }
+    requires l_value { r.now.cell.n1 / 2 < j.h →
+        on line_agrees r.now (neg_i (r.now.cell.n1 / 2) j.h, j.k, j.l) ≡ true }
+    ensures { result ≡ on line_agrees r.now (triple_of j) }
 {
-    if (cell.group == 4) & (between(j.k, cell.n2 / 2) & between(j.l, cell.n3 / 2)) {
-        if j.h <= cell.n1 / 2 {
-            mirrored_agrees(m, cell, volume, j)
+    if (r.cell.group == 4) & (between(j.k, r.cell.n2 / 2) & between(j.l, r.cell.n3 / 2)) {
+        if j.h <= r.cell.n1 / 2 {
+            mirrored_agrees(r, j)
         } else {
             true
         }
     } else {
-        images_agree(m, cell, volume, j)
+        images_agree(r, j)
     }
 }
 
 // The same by that operation, which leads j to a stored index between the ends too.
-fn mirrored_agrees(m: u32, cell: UnitCell, volume: &[u32], j: Index) -> bool
-    requires volume { IsVolume cell volume.now
-        × IsModulus m
-        × Below (prime m) volume.now
-        × IsStored cell j
-        × (cell.group ≡ 4) }
-    requires l_nonzero { (0 < j.l) × (j.l < cell.n3 / 2) }
-    ensures { result
-        ≡ image_agrees (cell_group cell) (cell_halves cell) m volume.now (triple_of j) mirrored }
+fn mirrored_agrees(r: &Residues, j: Index) -> bool
+    requires stored { IsStored r.now.cell j × (r.now.cell.group ≡ 4) }
+    requires l_nonzero { (0 < j.l) × (j.l < r.now.cell.n3 / 2) }
+    ensures { result ≡ on image_agrees r.now (triple_of j) mirrored }
 {
-    let o = operations::operation_at(cell.group, 7);
-    let i = operations::image(o, cell, j);
-    let x = crate::stored::between_value(m, cell, volume, j);
-    let y = crate::stored::between_value(m, cell, volume, i);
-    crate::stored::same(y, operations::implied(m, o, j, x))
+    let o = operations::operation_at(r.cell.group, 7);
+    let i = operations::image(o, r.cell, j);
+    let x = crate::stored::between_value(r.m, r.cell, r.volume, j);
+    let y = crate::stored::between_value(r.m, r.cell, r.volume, i);
+    crate::stored::same(y, operations::implied(r.m, o, j, x))
 }
 
 fn between(x: u32, end: u32) -> bool
@@ -88,13 +83,13 @@ fn between(x: u32, end: u32) -> bool
 
 // The first operation leaves j where it is, and need not be tried.
 #[tactic(auto, using(algebra::proofs::cells::Passing::tested_members))]
-fn images_agree(m: u32, cell: UnitCell, volume: &[u32], j: Index) -> bool
-    requires { IsVolume cell volume.now × IsModulus m × Below (prime m) volume.now × IsStored cell j }
-    ensures { result ≡ line_agrees (cell_group cell) (cell_halves cell) m volume.now (triple_of j) }
+fn images_agree(r: &Residues, j: Index) -> bool
+    requires { IsStored r.now.cell j }
+    ensures { result ≡ on line_agrees r.now (triple_of j) }
 {
-    for number in 1..operations::operation_count(cell.group) {
-        let o = operations::operation_at(cell.group, number);
-        if !image_agrees(m, cell, volume, o, j) {
+    for number in 1..operations::operation_count(r.cell.group) {
+        let o = operations::operation_at(r.cell.group, number);
+        if !image_agrees(r, o, j) {
             return false;
         }
     }
@@ -111,36 +106,27 @@ fn ends_alone(cell: UnitCell, l: u32) -> bool
 }
 
 // The ends k = 0 and k = B of the row (l, h).
-fn ends_agree(m: u32, cell: UnitCell, volume: &[u32], l: u32, h: u32) -> bool
-    requires { IsVolume cell volume.now
-        × IsModulus m
-        × Below (prime m) volume.now
-        × (l < span (cell_group cell) (cell.n3 / 2))
-        × (h < cell.n1) }
-    ensures { result ≡ row_ends_agree (cell_group cell) (cell_halves cell) m volume.now l h }
+fn ends_agree(r: &Residues, l: u32, h: u32) -> bool
+    requires { (l < span (cell_group r.now.cell) (r.now.cell.n3 / 2)) × (h < r.now.cell.n1) }
+    ensures { result ≡ on row_ends_agree r.now l h }
 {
-    let k = cell.n2 / 2;
-    images_agree(m, cell, volume, Index { h, k: 0, l })
-        && images_agree(m, cell, volume, Index { h, k, l })
+    let k = r.cell.n2 / 2;
+    images_agree(r, Index { h, k: 0, l }) && images_agree(r, Index { h, k, l })
 }
 
 // All k of the row (l, h), after those of the row (l, -h) where h is beyond N1/2.
 #[tactic(auto, using(algebra::proofs::cells::Passing::tested))]
-fn row_agrees(m: u32, cell: UnitCell, volume: &[u32], l: u32, h: u32) -> bool
-    requires volume { IsVolume cell volume.now
-        × IsModulus m
-        × Below (prime m) volume.now
-        × (l < span (cell_group cell) (cell.n3 / 2))
-        × (h < cell.n1) }
-    requires h_value { cell.n1 / 2 < h →
-        line_row_agrees (cell_group cell) (cell_halves cell) m volume.now l (neg_i (cell.n1 / 2) h) ≡ true }
-    ensures { result ≡ line_row_agrees (cell_group cell) (cell_halves cell) m volume.now l h }
+fn row_agrees(r: &Residues, l: u32, h: u32) -> bool
+    requires place { (l < span (cell_group r.now.cell) (r.now.cell.n3 / 2)) × (h < r.now.cell.n1) }
+    requires h_value { r.now.cell.n1 / 2 < h →
+        on line_row_agrees r.now l (neg_i (r.now.cell.n1 / 2) h) ≡ true }
+    ensures { result ≡ on line_row_agrees r.now l h }
 {
-    if ends_alone(cell, l) {
-        return ends_agree(m, cell, volume, l, h);
+    if ends_alone(r.cell, l) {
+        return ends_agree(r, l, h);
     }
-    for k in 0..=cell.n2 / 2 {
-        if !factor_agrees(m, cell, volume, Index { h, k, l }) {
+    for k in 0..=r.cell.n2 / 2 {
+        if !factor_agrees(r, Index { h, k, l }) {
             return false;
         }
     }
@@ -149,17 +135,12 @@ fn row_agrees(m: u32, cell: UnitCell, volume: &[u32], l: u32, h: u32) -> bool
 
 // All h of the layer l, rising: a row is tested after that of -h.
 #[tactic(auto, using(algebra::proofs::cells::Passing::tested))]
-fn layer_agrees(m: u32, cell: UnitCell, volume: &[u32], l: u32) -> bool
-    requires { IsVolume cell volume.now
-        × IsModulus m
-        × Below (prime m) volume.now
-        × (l < span (cell_group cell) (cell.n3 / 2)) }
-    ensures { result
-        ≡ below (2 * (cell.n1 / 2))
-        (λ h. line_row_agrees (cell_group cell) (cell_halves cell) m volume.now l h) }
+fn layer_agrees(r: &Residues, l: u32) -> bool
+    requires { l < span (cell_group r.now.cell) (r.now.cell.n3 / 2) }
+    ensures { result ≡ below (2 * (r.now.cell.n1 / 2)) (on line_row_agrees r.now l) }
 {
-    for h in 0..cell.n1 {
-        if !row_agrees(m, cell, volume, l, h) {
+    for h in 0..r.cell.n1 {
+        if !row_agrees(r, l, h) {
             return false;
         }
     }
@@ -168,12 +149,11 @@ fn layer_agrees(m: u32, cell: UnitCell, volume: &[u32], l: u32) -> bool
 
 // All stored l.
 #[tactic(auto, using(algebra::proofs::cells::Passing::tested))]
-fn factors_agree(m: u32, cell: UnitCell, volume: &[u32]) -> bool
-    requires { IsVolume cell volume.now × IsModulus m × Below (prime m) volume.now }
-    ensures { result ≡ lines_agree (cell_group cell) (cell_halves cell) m volume.now }
+fn factors_agree(r: &Residues) -> bool
+    ensures { result ≡ on lines_agree r.now }
 {
-    for l in 0..places::stored_count(cell) {
-        if !layer_agrees(m, cell, volume, l) {
+    for l in 0..places::stored_count(r.cell) {
+        if !layer_agrees(r, l) {
             return false;
         }
     }

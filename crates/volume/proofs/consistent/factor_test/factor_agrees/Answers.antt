@@ -24,23 +24,23 @@ settled n y z e f = by_cases (eqb n 4) y z e (λ x u w. f (eqb-true n 4 x) u w)
     by_cases false y z e f = absurd (subst T (sym e) tt)
 
 -- one image is tried
-pub returns-then-j-cell : goal.returns-then-j-cell
-returns-then-j-cell c =
-    let a = cell_halves c.args.cell in
-    settled c.args.cell.group c.between.result c.between-2.result c.if-cell-between.true
-    (λ e u z. let r = c.between.ensures u in let w = c.between-2.ensures z in
+pub returns-then-j-r : goal.returns-then-j-r
+returns-then-j-r c =
+    let a = cell_halves c.args.r.now.cell in
+    settled c.args.r.now.cell.group c.between.result c.between-2.result c.if-r-between.true
+    (λ e u z. let s = c.between.ensures u in let w = c.between-2.ensures z in
     c.mirrored_agrees.ensures
-    ∙ ap (λ n. image_agrees (group_of n) a c.args.m c.args.volume.now (triple_of c.args.j) mirrored) e
-    ∙ sym (inner_4 a c.args.m c.args.volume.now (triple_of c.args.j) r.0 r.1 w.0 w.1)
-    ∙ ap (λ n. line_agrees (group_of n) a c.args.m c.args.volume.now (triple_of c.args.j)) (sym e))
+    ∙ ap (λ n. image_agrees (group_of n) a c.args.r.now.m c.args.r.now.volume.now (triple_of c.args.j) mirrored) e
+    ∙ sym (inner_4 a c.args.r.now.m c.args.r.now.volume.now (triple_of c.args.j) s.0 s.1 w.0 w.1)
+    ∙ ap (λ n. line_agrees (group_of n) a c.args.r.now.m c.args.r.now.volume.now (triple_of c.args.j)) (sym e))
 
 -- beyond N1/2 that image was tried at -h
-pub returns-else-j-cell : goal.returns-else-j-cell
-returns-else-j-cell c =
-    let a = cell_halves c.args.cell in
+pub returns-else-j-r : goal.returns-else-j-r
+returns-else-j-r c =
+    let a = cell_halves c.args.r.now.cell in
     let j = triple_of c.args.j in
-    settled c.args.cell.group c.between.result c.between-2.result c.if-cell-between.true
-    (λ e u z. let r = c.between.ensures u in let w = c.between-2.ensures z in
-    sym (ap (λ n. line_agrees (group_of n) a c.args.m c.args.volume.now j) e
-    ∙ mirror_4 a c.args.m c.args.volume.now j (omega (arith, c.requires.volume.3.h, c.requires.volume.0.sizes.first.even)) r.0 r.1 w.0 w.1
-    (ap (λ n. line_agrees (group_of n) a c.args.m c.args.volume.now (neg_i (c.args.cell.n1 / 2) j.0, j.1, j.2)) (sym e) ∙ c.requires.l_value (omega (arith, c.if-j-cell.false)))))
+    settled c.args.r.now.cell.group c.between.result c.between-2.result c.if-r-between.true
+    (λ e u z. let s = c.between.ensures u in let w = c.between-2.ensures z in
+    sym (ap (λ n. line_agrees (group_of n) a c.args.r.now.m c.args.r.now.volume.now j) e
+    ∙ mirror_4 a c.args.r.now.m c.args.r.now.volume.now j (omega (arith, c.requires.stored.h, c.args.r.now.whole.sizes.first.even)) s.0 s.1 w.0 w.1
+    (ap (λ n. line_agrees (group_of n) a c.args.r.now.m c.args.r.now.volume.now (neg_i (c.args.r.now.cell.n1 / 2) j.0, j.1, j.2)) (sym e) ∙ c.requires.l_value (omega (arith, c.if-j-r.false)))))

@@ -7,23 +7,22 @@ use Rattle.volume.proofs.consistent.factor_test.image_agrees.Goals as goal
 
 pub image-i-requires : goal.image-i-requires
 image-i-requires c =
-    let p = c.requires in
-    let s = p.0.sizes in
-    (s, stored_within s p.3)
+    let s = c.args.r.now.whole.sizes in
+    (s, stored_within s c.requires)
 
 pub stored_value-x-requires-clause-j_value : goal.stored_value-x-requires-clause-j_value
-stored_value-x-requires-clause-j_value c = all_below_at_lem c.requires.2 _
+stored_value-x-requires-clause-j_value c = all_below_at_lem c.args.r.now.below _
 
 pub stored_value-y-requires : goal.stored_value-y-requires
-stored_value-y-requires c = record {
-  modulus = (c.requires.1, c.requires.0, stored_by c.requires.0.sizes c.image-i.ensures.1 c.is_stored.ensures c.if-is_stored.true);
-  j_value = all_below_at_lem c.requires.2 _;
-}
+stored_value-y-requires c =
+    let r = c.args.r.now in
+    record {
+      modulus = (r.modulus, r.whole, stored_by r.whole.sizes c.image-i.ensures.1 c.is_stored.ensures c.if-is_stored.true);
+      j_value = all_below_at_lem r.below _;
+    }
 
 pub implied-requires : goal.implied-requires
-implied-requires c =
-    let p = c.requires in
-    (p.1, small_by _ _ c.stored_value-x.ensures)
+implied-requires c = (c.args.r.now.modulus, small_by _ _ c.stored_value-x.ensures)
 
 pub returns-then-is_stored : goal.returns-then-is_stored
 returns-then-is_stored c =

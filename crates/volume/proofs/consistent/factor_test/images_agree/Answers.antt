@@ -6,5 +6,5 @@ use Rattle.volume.proofs.consistent.factor_test.images_agree.Goals as goal
 
 pub loop-number-init : goal.loop-number-init
 loop-number-init c =
-    let first = first_full c.args.cell.group c.requires.0.sizes.known in
-    members_second first.0 first.1 (identity_agrees (cell_group c.args.cell) (cell_halves c.args.cell) c.args.m c.args.volume.now (triple_of c.args.j))
+    let first = first_full c.args.r.now.cell.group c.args.r.now.whole.sizes.known in
+    members_second first.0 first.1 (identity_agrees (cell_group c.args.r.now.cell) (cell_halves c.args.r.now.cell) c.args.r.now.m c.args.r.now.volume.now (triple_of c.args.j))

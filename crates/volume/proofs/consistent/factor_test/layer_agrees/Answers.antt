@@ -8,4 +8,4 @@ neg_before : (a h : ℕ) → a < h → h < 2 * a → neg_i a h < h
 neg_before a h l u = omega (arith, neg_pos a h (omega arith) u)
 
 pub row_agrees-requires-clause-h_value : goal.row_agrees-requires-clause-h_value
-row_agrees-requires-clause-h_value c = λ beyond. passed_at _ _ _ c.loop-h.invariant (neg_before _ _ beyond (omega (arith, c.requires.0.sizes.first.even, c.loop-h-test.true)))
+row_agrees-requires-clause-h_value c = λ beyond. passed_at _ _ _ c.loop-h.invariant (neg_before _ _ beyond (omega (arith, c.args.r.now.whole.sizes.first.even, c.loop-h-test.true)))

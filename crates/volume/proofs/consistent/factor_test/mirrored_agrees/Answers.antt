@@ -30,27 +30,29 @@ image-stored cell j i p w e =
     record { h = w.h; k = omega (arith, k, p.k); l = subst (λ l. l < span (cell_group cell) (cell.n3 / 2)) (sym (mirrored_l (cell_halves cell) (triple_of j) e)) p.l }
 
 pub between_value-x-requires-clause-j_value : goal.between_value-x-requires-clause-j_value
-between_value-x-requires-clause-j_value c = all_below_at_lem c.requires.volume.2 _
+between_value-x-requires-clause-j_value c = all_below_at_lem c.args.r.now.below _
 
 pub between_value-y-requires : goal.between_value-y-requires
 between_value-y-requires c =
     let p = c.requires in
-    let i = is-image (cell_halves c.args.cell) (triple_of c.args.j) c.image-i.ensures.0 (is-mirrored c.operation_at-o.ensures c.requires.volume.4) in
-    let l = mirrored_l (cell_halves c.args.cell) (triple_of c.args.j) i in
+    let r = c.args.r.now in
+    let i = is-image (cell_halves c.args.r.now.cell) (triple_of c.args.j) c.image-i.ensures.0 (is-mirrored c.operation_at-o.ensures c.requires.stored.1) in
+    let l = mirrored_l (cell_halves c.args.r.now.cell) (triple_of c.args.j) i in
     record {
-      modulus = (p.volume.1, p.volume.0, image-stored _ c.args.j c.image-i.result p.volume.3 c.image-i.ensures.1 i, λ e. omega (arith, l, p.l_nonzero.0, e), λ e. omega (arith, l, p.l_nonzero.1, e));
-      j_value = all_below_at_lem p.volume.2 _;
+      modulus = (r.modulus, r.whole, image-stored _ c.args.j c.image-i.result p.stored.0 c.image-i.ensures.1 i, λ e. omega (arith, l, p.l_nonzero.0, e), λ e. omega (arith, l, p.l_nonzero.1, e));
+      j_value = all_below_at_lem r.below _;
     }
 
 pub implied-requires : goal.implied-requires
-implied-requires c = (c.requires.volume.1, small_by _ _ c.between_value-x.ensures)
+implied-requires c = (c.args.r.now.modulus, small_by _ _ c.between_value-x.ensures)
 
 pub returns : goal.returns
 returns c =
     let a = c.args in
-    let m = is-mirrored c.operation_at-o.ensures c.requires.volume.4 in
-    let w = image-stored _ c.args.j c.image-i.result c.requires.volume.3 c.image-i.ensures.1 (is-image (cell_halves a.cell) (triple_of a.j) c.image-i.ensures.0 m) in
-    image_tested (cell_group a.cell) (cell_halves a.cell) a.m a.volume.now (triple_of a.j) (sym_of c.operation_at-o.result) c.image-i.ensures.0 refl
-    ((true_iff _).1 ((stored_iff (cell_group a.cell) (cell_halves a.cell) (triple_of c.image-i.result)).1 (w.k, w.l)))
+    let r = a.r.now in
+    let m = is-mirrored c.operation_at-o.ensures c.requires.stored.1 in
+    let w = image-stored _ c.args.j c.image-i.result c.requires.stored.0 c.image-i.ensures.1 (is-image (cell_halves r.cell) (triple_of a.j) c.image-i.ensures.0 m) in
+    image_tested (cell_group r.cell) (cell_halves r.cell) r.m r.volume.now (triple_of a.j) (sym_of c.operation_at-o.result) c.image-i.ensures.0 refl
+    ((true_iff _).1 ((stored_iff (cell_group r.cell) (cell_halves r.cell) (triple_of c.image-i.result)).1 (w.k, w.l)))
     c.between_value-x.ensures c.between_value-y.ensures c.implied.ensures c.same.ensures
-    ∙ ap (λ q. image_agrees (cell_group a.cell) (cell_halves a.cell) a.m a.volume.now (triple_of a.j) q) m
+    ∙ ap (λ q. image_agrees (cell_group r.cell) (cell_halves r.cell) r.m r.volume.now (triple_of a.j) q) m

@@ -5,6 +5,6 @@ pub mod OrbitPlace
 pub mod Operations
 pub mod Places
 pub mod TestSteps
-pub mod Residues
+pub mod Lent
 pub mod Exactly
 pub mod Rows

@@ -3,7 +3,7 @@
 
 pub mod operations; // operations.rt: the groups' operations, the images of an index and of a point, implied values
 pub mod places; // places.rt: where factors and points stand in a volume
-pub mod residues; // residues.rt: a volume of residues
+pub mod lent; // lent.rt: a lent volume, and one of residues
 
 ghost use Rattle.cell.specs.Exactly.{ConsistentExactly};
 ghost use Rattle.cell.specs.NumbersRead.{NumbersReadExactly};

@@ -12,13 +12,13 @@ ghost use Rattle.cell.specs.Volume.{layers};
 ghost use Rattle.cell.specs.Consistency.{consistent_factors};
 ghost use Rattle.cell.specs.Operations.{cell_group, cell_halves, Sizes};
 ghost use Rattle.cell.specs.TestSteps.{IsVolume};
-ghost use Rattle.cell.specs.Residues.{on};
+ghost use Rattle.cell.specs.Lent.{of_residues};
 ghost use Rattle.power.specs.Power.{map_power, factor_power};
 ghost use Rattle.power.specs.PowerSteps.{layer_twice, squares, row_power, layer_power, stored_power};
 
 use cell::operations::UnitCell;
 use cell::places;
-use cell::residues::Residues;
+use cell::lent::Residues;
 
 // The sum of the squares of a map of residues.
 pub fn map_power(m: u32, cell: UnitCell, volume: &[u32]) -> u32
@@ -53,7 +53,7 @@ fn square_sum(volume: &[u32], start: usize, count: usize) -> u64
 // A row of a map: its N2 numbers, without the two zeros.
 fn map_row(r: &Residues, w: u32, h: u32) -> u32
     requires { (w < layers (cell_group r.now.cell) (cell_halves r.now.cell)) × (h < r.now.cell.n1) }
-    ensures { result ≡ (on row_power r.now true w h).val }
+    ensures { result ≡ (of_residues row_power r.now true w h).val }
 {
     let start = 2 * places::pair_place(r.cell, w, h, 0);
     numbers::reduce_below(r.m, square_sum(r.volume, start, r.cell.n2 as usize))
@@ -62,7 +62,7 @@ fn map_row(r: &Residues, w: u32, h: u32) -> u32
 // A row of factors: the pairs 0 and B once, those between, which stand for k and -k, twice.
 fn factor_row(r: &Residues, w: u32, h: u32) -> u32
     requires { (w < layers (cell_group r.now.cell) (cell_halves r.now.cell)) × (h < r.now.cell.n1) }
-    ensures { result ≡ (on row_power r.now false w h).val }
+    ensures { result ≡ (of_residues row_power r.now false w h).val }
 {
     let first = square_sum(r.volume, 2 * places::pair_place(r.cell, w, h, 0), 2);
     let last = square_sum(
@@ -97,7 +97,7 @@ fn layer_twice(cell: UnitCell, density: bool, w: u32) -> bool
 // Layer w: its rows, as often as they stand in the cell.
 fn layer_power(r: &Residues, density: bool, w: u32) -> u32
     requires { w < layers (cell_group r.now.cell) (cell_halves r.now.cell) }
-    ensures { result ≡ (on layer_power r.now density w).val }
+    ensures { result ≡ (of_residues layer_power r.now density w).val }
 {
     let mut total = 0;
     for h in 0..r.cell.n1 {
@@ -114,7 +114,7 @@ fn layer_power(r: &Residues, density: bool, w: u32) -> u32
 // A row of the one or the other.
 fn row_power(r: &Residues, density: bool, w: u32, h: u32) -> u32
     requires { (w < layers (cell_group r.now.cell) (cell_halves r.now.cell)) × (h < r.now.cell.n1) }
-    ensures { result ≡ (on row_power r.now density w h).val }
+    ensures { result ≡ (of_residues row_power r.now density w h).val }
 {
     if density {
         map_row(r, w, h)
@@ -125,7 +125,7 @@ fn row_power(r: &Residues, density: bool, w: u32, h: u32) -> u32
 
 // All layers.
 fn stored_power(r: &Residues, density: bool) -> u32
-    ensures { result ≡ (on stored_power r.now density).val }
+    ensures { result ≡ (of_residues stored_power r.now density).val }
 {
     let mut total = 0;
     for w in 0..places::layer_count(r.cell) {

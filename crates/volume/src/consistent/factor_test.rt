@@ -10,12 +10,12 @@ ghost use Rattle.slices.specs.Pairs.{Below};
 ghost use Rattle.cell.specs.Volume.{line_kind};
 ghost use Rattle.cell.specs.Consistency.{line_agrees, consistent_factors};
 ghost use Rattle.cell.specs.Operations.{cell_group, cell_halves, triple_of, sym_of};
-ghost use Rattle.cell.specs.Residues.{on};
+ghost use Rattle.cell.specs.Lent.{of_volume, of_residues};
 ghost use Rattle.cell.specs.TestSteps.{IsVolume, IsStored, mirrored, image_agrees, line_row_agrees, row_ends_agree};
 ghost use Rattle.cell.specs.TestSteps.{InnerAgree, lines_agree, empty_ends, left_out_empty};
 
+use cell::lent::{LentVolume, Residues};
 use cell::operations::{Index, Operation, UnitCell};
-use cell::residues::Residues;
 use cell::{operations, places};
 
 // The volume is the packed factors of some cell that obeys group and Friedel.
@@ -25,13 +25,13 @@ pub fn consistent_factors(m: u32, cell: UnitCell, volume: &[u32]) -> bool
 {
     // a group has antisymmetric lines at h = 1 or nowhere
     factors_agree(&Residues { m, cell, volume })
-        && (places::line_kind(cell.group, 1) != 5 || odd_rows_empty(cell, volume))
+        && (places::line_kind(cell.group, 1) != 5 || odd_rows_empty(&LentVolume { cell, volume }))
 }
 
 // The image of j under o, where it is stored, has the value that the factor at j implies.
 fn image_agrees(r: &Residues, o: Operation, j: Index) -> bool
     requires { IsStored r.now.cell j }
-    ensures { result ≡ on image_agrees r.now (triple_of j) (sym_of o) }
+    ensures { result ≡ of_residues image_agrees r.now (triple_of j) (sym_of o) }
 {
     let i = operations::image(o, r.cell, j);
     if places::is_stored(r.cell, i) {
@@ -48,8 +48,8 @@ fn image_agrees(r: &Residues, o: Operation, j: Index) -> bool
 fn factor_agrees(r: &Residues, j: Index) -> bool
     requires stored { IsStored r.now.cell j }
     requires l_value { r.now.cell.n1 / 2 < j.h →
-        on line_agrees r.now (neg_i (r.now.cell.n1 / 2) j.h, j.k, j.l) ≡ true }
-    ensures { result ≡ on line_agrees r.now (triple_of j) }
+        of_residues line_agrees r.now (neg_i (r.now.cell.n1 / 2) j.h, j.k, j.l) ≡ true }
+    ensures { result ≡ of_residues line_agrees r.now (triple_of j) }
 {
     if (r.cell.group == 4) & (between(j.k, r.cell.n2 / 2) & between(j.l, r.cell.n3 / 2)) {
         if j.h <= r.cell.n1 / 2 {
@@ -66,7 +66,7 @@ fn factor_agrees(r: &Residues, j: Index) -> bool
 fn mirrored_agrees(r: &Residues, j: Index) -> bool
     requires stored { IsStored r.now.cell j × (r.now.cell.group ≡ 4) }
     requires l_nonzero { (0 < j.l) × (j.l < r.now.cell.n3 / 2) }
-    ensures { result ≡ on image_agrees r.now (triple_of j) mirrored }
+    ensures { result ≡ of_residues image_agrees r.now (triple_of j) mirrored }
 {
     let o = operations::operation_at(r.cell.group, 7);
     let i = operations::image(o, r.cell, j);
@@ -85,7 +85,7 @@ fn between(x: u32, end: u32) -> bool
 #[tactic(auto, using(algebra::proofs::cells::Passing::tested_members))]
 fn images_agree(r: &Residues, j: Index) -> bool
     requires { IsStored r.now.cell j }
-    ensures { result ≡ on line_agrees r.now (triple_of j) }
+    ensures { result ≡ of_residues line_agrees r.now (triple_of j) }
 {
     for number in 1..operations::operation_count(r.cell.group) {
         let o = operations::operation_at(r.cell.group, number);
@@ -108,7 +108,7 @@ fn ends_alone(cell: UnitCell, l: u32) -> bool
 // The ends k = 0 and k = B of the row (l, h).
 fn ends_agree(r: &Residues, l: u32, h: u32) -> bool
     requires { (l < span (cell_group r.now.cell) (r.now.cell.n3 / 2)) × (h < r.now.cell.n1) }
-    ensures { result ≡ on row_ends_agree r.now l h }
+    ensures { result ≡ of_residues row_ends_agree r.now l h }
 {
     let k = r.cell.n2 / 2;
     images_agree(r, Index { h, k: 0, l }) && images_agree(r, Index { h, k, l })
@@ -119,8 +119,8 @@ fn ends_agree(r: &Residues, l: u32, h: u32) -> bool
 fn row_agrees(r: &Residues, l: u32, h: u32) -> bool
     requires place { (l < span (cell_group r.now.cell) (r.now.cell.n3 / 2)) × (h < r.now.cell.n1) }
     requires h_value { r.now.cell.n1 / 2 < h →
-        on line_row_agrees r.now l (neg_i (r.now.cell.n1 / 2) h) ≡ true }
-    ensures { result ≡ on line_row_agrees r.now l h }
+        of_residues line_row_agrees r.now l (neg_i (r.now.cell.n1 / 2) h) ≡ true }
+    ensures { result ≡ of_residues line_row_agrees r.now l h }
 {
     if ends_alone(r.cell, l) {
         return ends_agree(r, l, h);
@@ -137,7 +137,7 @@ fn row_agrees(r: &Residues, l: u32, h: u32) -> bool
 #[tactic(auto, using(algebra::proofs::cells::Passing::tested))]
 fn layer_agrees(r: &Residues, l: u32) -> bool
     requires { l < span (cell_group r.now.cell) (r.now.cell.n3 / 2) }
-    ensures { result ≡ below (2 * (r.now.cell.n1 / 2)) (on line_row_agrees r.now l) }
+    ensures { result ≡ below (2 * (r.now.cell.n1 / 2)) (of_residues line_row_agrees r.now l) }
 {
     for h in 0..r.cell.n1 {
         if !row_agrees(r, l, h) {
@@ -150,7 +150,7 @@ fn layer_agrees(r: &Residues, l: u32) -> bool
 // All stored l.
 #[tactic(auto, using(algebra::proofs::cells::Passing::tested))]
 fn factors_agree(r: &Residues) -> bool
-    ensures { result ≡ on lines_agree r.now }
+    ensures { result ≡ of_residues lines_agree r.now }
 {
     for l in 0..places::stored_count(r.cell) {
         if !layer_agrees(r, l) {
@@ -161,28 +161,25 @@ fn factors_agree(r: &Residues) -> bool
 }
 
 // The pairs 0 and A of the line (h, k) are zero.
-fn empty_line(cell: UnitCell, volume: &[u32], h: u32, k: u32) -> bool
-    requires { IsVolume cell volume.now
-        × (line_kind (cell_group cell) h ≡ antisymmetric)
-        × (h < cell.n1)
-        × (k ≤ cell.n2 / 2) }
-    ensures { result ≡ empty_ends (cell_group cell) (cell_halves cell) volume.now h k }
+fn empty_line(v: &LentVolume, h: u32, k: u32) -> bool
+    requires { (line_kind (cell_group v.now.cell) h ≡ antisymmetric)
+        × (h < v.now.cell.n1)
+        × (k ≤ v.now.cell.n2 / 2) }
+    ensures { result ≡ of_volume empty_ends v.now h k }
 {
-    let first = crate::stored::pair_at(cell, volume, 0, h, k);
-    let last = crate::stored::pair_at(cell, volume, cell.n3 / 2, h, k);
+    let first = crate::stored::pair_at(v.cell, v.volume, 0, h, k);
+    let last = crate::stored::pair_at(v.cell, v.volume, v.cell.n3 / 2, h, k);
     crate::stored::is_zero(first) & crate::stored::is_zero(last)
 }
 
 // The same for all k.
 #[tactic(auto, using(algebra::proofs::cells::Passing::tested))]
-fn empty_row(cell: UnitCell, volume: &[u32], h: u32) -> bool
-    requires { IsVolume cell volume.now × (line_kind (cell_group cell) h ≡ antisymmetric) × (h < cell.n1) }
-    ensures { result
-        ≡ below (suc (cell.n2 / 2))
-        (λ k. empty_ends (cell_group cell) (cell_halves cell) volume.now h k) }
+fn empty_row(v: &LentVolume, h: u32) -> bool
+    requires { (line_kind (cell_group v.now.cell) h ≡ antisymmetric) × (h < v.now.cell.n1) }
+    ensures { result ≡ below (suc (v.now.cell.n2 / 2)) (of_volume empty_ends v.now h) }
 {
-    for k in 0..=cell.n2 / 2 {
-        if !empty_line(cell, volume, h, k) {
+    for k in 0..=v.cell.n2 / 2 {
+        if !empty_line(v, h, k) {
             return false;
         }
     }
@@ -190,12 +187,12 @@ fn empty_row(cell: UnitCell, volume: &[u32], h: u32) -> bool
 }
 
 // The same for every line that leaves the pairs 0 and A out: the group with such lines, Pa, has them at every odd h and at no even one.
-fn odd_rows_empty(cell: UnitCell, volume: &[u32]) -> bool
-    requires { IsVolume cell volume.now × (line_kind (cell_group cell) 1 ≡ antisymmetric) }
-    ensures { result ≡ left_out_empty (cell_group cell) (cell_halves cell) volume.now }
+fn odd_rows_empty(v: &LentVolume) -> bool
+    requires { line_kind (cell_group v.now.cell) 1 ≡ antisymmetric }
+    ensures { result ≡ of_volume left_out_empty v.now }
 {
-    for h in (1..cell.n1).step_by(2) {
-        if !empty_row(cell, volume, h) {
+    for h in (1..v.cell.n1).step_by(2) {
+        if !empty_row(v, h) {
             return false;
         }
     }

@@ -8,8 +8,10 @@ ghost use Rattle.algebra.specs.cells.Cell.{below};
 ghost use Rattle.cell.specs.Volume.{layers};
 ghost use Rattle.cell.specs.Consistency.{point_agrees, consistent_map};
 ghost use Rattle.cell.specs.Operations.{cell_group, cell_halves, point_of, sym_of, Sizes, PointWithin};
+ghost use Rattle.cell.specs.Lent.{of_volume};
 ghost use Rattle.cell.specs.TestSteps.{IsVolume, point_image_agrees, PlaneAgrees, points_agree, row_agrees};
 
+use cell::lent::LentVolume;
 use cell::operations::{Operation, Point, UnitCell};
 use cell::{operations, places};
 
@@ -19,9 +21,10 @@ pub fn consistent_map(cell: UnitCell, volume: &[u32]) -> bool
     requires { IsVolume cell volume.now }
     ensures { result ≡ consistent_map (cell_group cell) (cell_halves cell) volume.now }
 {
+    let v = LentVolume { cell, volume };
     let planes = places::layer_count(cell);
     for z in 0..planes {
-        if !plane_agrees(cell, volume, z) {
+        if !plane_agrees(&v, z) {
             return false;
         }
     }
@@ -29,17 +32,14 @@ pub fn consistent_map(cell: UnitCell, volume: &[u32]) -> bool
 }
 
 // The image of the point under o, where its plane is stored, has the point's number.
-fn image_agrees(cell: UnitCell, volume: &[u32], o: Operation, p: Point) -> bool
-    requires { IsVolume cell volume.now
-        × PointWithin cell p
-        × (p.z < layers (cell_group cell) (cell_halves cell)) }
-    ensures { result
-        ≡ point_image_agrees (cell_group cell) (cell_halves cell) volume.now (point_of p) (sym_of o) }
+fn image_agrees(v: &LentVolume, o: Operation, p: Point) -> bool
+    requires { PointWithin v.now.cell p × (p.z < layers (cell_group v.now.cell) (cell_halves v.now.cell)) }
+    ensures { result ≡ of_volume point_image_agrees v.now (point_of p) (sym_of o) }
 {
-    let q = operations::point_image(o, cell, p);
-    if q.z < places::layer_count(cell) {
-        crate::stored::stored_number(cell, volume, q)
-            == crate::stored::stored_number(cell, volume, p)
+    let q = operations::point_image(o, v.cell, p);
+    if q.z < places::layer_count(v.cell) {
+        crate::stored::stored_number(v.cell, v.volume, q)
+            == crate::stored::stored_number(v.cell, v.volume, p)
     } else {
         true
     }
@@ -47,15 +47,13 @@ fn image_agrees(cell: UnitCell, volume: &[u32], o: Operation, p: Point) -> bool
 
 // Every image of the point agrees. The first operation leaves it where it is, and need not be tried.
 #[tactic(auto, using(algebra::proofs::cells::Passing::tested_members))]
-fn point_agrees(cell: UnitCell, volume: &[u32], p: Point) -> bool
-    requires { IsVolume cell volume.now
-        × PointWithin cell p
-        × (p.z < layers (cell_group cell) (cell_halves cell)) }
-    ensures { result ≡ point_agrees (cell_group cell) (cell_halves cell) volume.now (point_of p) }
+fn point_agrees(v: &LentVolume, p: Point) -> bool
+    requires { PointWithin v.now.cell p × (p.z < layers (cell_group v.now.cell) (cell_halves v.now.cell)) }
+    ensures { result ≡ of_volume point_agrees v.now (point_of p) }
 {
-    for number in 1..operations::group_order(cell.group) {
-        let o = operations::group_operation(cell.group, number);
-        if !image_agrees(cell, volume, o, p) {
+    for number in 1..operations::group_order(v.cell.group) {
+        let o = operations::group_operation(v.cell.group, number);
+        if !image_agrees(v, o, p) {
             return false;
         }
     }
@@ -80,18 +78,17 @@ fn meets_stored(cell: UnitCell, z: u32) -> bool
 
 // The points of the row at z and x, where they are to be tried.
 #[tactic(auto, using(algebra::proofs::cells::Passing::tested))]
-fn points_agree(cell: UnitCell, volume: &[u32], tried: bool, z: u32, x: u32) -> bool
-    requires { IsVolume cell volume.now
-        × (z < layers (cell_group cell) (cell_halves cell))
-        × (x < cell.n1)
-        × (tried ≡ false → PlaneAgrees cell z) }
-    ensures { result ≡ points_agree (cell_group cell) (cell_halves cell) volume.now z x }
+fn points_agree(v: &LentVolume, tried: bool, z: u32, x: u32) -> bool
+    requires { (z < layers (cell_group v.now.cell) (cell_halves v.now.cell))
+        × (x < v.now.cell.n1)
+        × (tried ≡ false → PlaneAgrees v.now.cell z) }
+    ensures { result ≡ of_volume points_agree v.now z x }
 {
     if !tried {
         return true;
     }
-    for y in 0..cell.n2 {
-        if !point_agrees(cell, volume, Point { x, y, z }) {
+    for y in 0..v.cell.n2 {
+        if !point_agrees(v, Point { x, y, z }) {
             return false;
         }
     }
@@ -99,28 +96,25 @@ fn points_agree(cell: UnitCell, volume: &[u32], tried: bool, z: u32, x: u32) -> 
 }
 
 // The row at z and x: its points, then its two zeros.
-fn row_agrees(cell: UnitCell, volume: &[u32], tried: bool, z: u32, x: u32) -> bool
-    requires { IsVolume cell volume.now
-        × (z < layers (cell_group cell) (cell_halves cell))
-        × (x < cell.n1)
-        × (tried ≡ false → PlaneAgrees cell z) }
-    ensures { result ≡ row_agrees (cell_group cell) (cell_halves cell) volume.now z x }
+fn row_agrees(v: &LentVolume, tried: bool, z: u32, x: u32) -> bool
+    requires { (z < layers (cell_group v.now.cell) (cell_halves v.now.cell))
+        × (x < v.now.cell.n1)
+        × (tried ≡ false → PlaneAgrees v.now.cell z) }
+    ensures { result ≡ of_volume row_agrees v.now z x }
 {
-    points_agree(cell, volume, tried, z, x)
-        && crate::stored::is_zero(crate::stored::pair_at(cell, volume, z, x, cell.n2 / 2))
+    points_agree(v, tried, z, x)
+        && crate::stored::is_zero(crate::stored::pair_at(v.cell, v.volume, z, x, v.cell.n2 / 2))
 }
 
 // All x of the plane z.
 #[tactic(auto, using(algebra::proofs::cells::Passing::tested))]
-fn plane_agrees(cell: UnitCell, volume: &[u32], z: u32) -> bool
-    requires { IsVolume cell volume.now × (z < layers (cell_group cell) (cell_halves cell)) }
-    ensures { result
-        ≡ below (2 * (cell.n1 / 2))
-        (λ x. row_agrees (cell_group cell) (cell_halves cell) volume.now z x) }
+fn plane_agrees(v: &LentVolume, z: u32) -> bool
+    requires { z < layers (cell_group v.now.cell) (cell_halves v.now.cell) }
+    ensures { result ≡ below (2 * (v.now.cell.n1 / 2)) (of_volume row_agrees v.now z) }
 {
-    let tried = meets_stored(cell, z);
-    for x in 0..cell.n1 {
-        if !row_agrees(cell, volume, tried, z, x) {
+    let tried = meets_stored(v.cell, z);
+    for x in 0..v.cell.n1 {
+        if !row_agrees(v, tried, z, x) {
             return false;
         }
     }

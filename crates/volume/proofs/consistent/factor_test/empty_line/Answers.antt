@@ -14,7 +14,7 @@ ends : (g : Group) (h c : ℕ) → line_kind g h ≡ antisymmetric → (0 < plan
 ends g h c e = let p = antisymmetric_layers g h c e in (omega (arith, p), omega (arith, p))
 
 pub pair_at-first-requires : goal.pair_at-first-requires
-pair_at-first-requires c = let p = c.requires in pair_inside p.0 0 _ _ (ends _ _ _ p.1).0 p.2 p.3
+pair_at-first-requires c = let p = c.requires in pair_inside c.args.v.now.whole 0 _ _ (ends _ _ _ p.0).0 p.1 p.2
 
 pub pair_at-last-requires : goal.pair_at-last-requires
-pair_at-last-requires c = let p = c.requires in pair_inside p.0 _ _ _ (ends _ _ _ p.1).1 p.2 p.3
+pair_at-last-requires c = let p = c.requires in pair_inside c.args.v.now.whole _ _ _ (ends _ _ _ p.0).1 p.1 p.2

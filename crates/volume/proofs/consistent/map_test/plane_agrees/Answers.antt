@@ -4,5 +4,5 @@ use Rattle.volume.proofs.consistent.map_test.plane_agrees.Goals as goal
 
 pub meets_stored-tried-requires : goal.meets_stored-tried-requires
 meets_stored-tried-requires c =
-    let s = c.requires.0.sizes in
-    (s, omega (arith, c.requires.1, layers_most s.third _ s.known))
+    let s = c.args.v.now.whole.sizes in
+    (s, omega (arith, c.requires, layers_most s.third _ s.known))

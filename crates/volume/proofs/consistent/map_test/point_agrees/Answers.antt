@@ -6,5 +6,6 @@ use Rattle.volume.proofs.consistent.map_test.point_agrees.Goals as goal
 
 pub loop-number-init : goal.loop-number-init
 loop-number-init c =
-    let known = c.requires.0.sizes.known in
-    members_second (order_least c.args.cell.group known) (first_own c.args.cell.group known) (identity_point (cell_group c.args.cell) (cell_halves c.args.cell) c.args.volume.now (point_of c.args.p))
+    let v = c.args.v.now in
+    let known = v.whole.sizes.known in
+    members_second (order_least v.cell.group known) (first_own v.cell.group known) (identity_point (cell_group v.cell) (cell_halves v.cell) v.volume.now (point_of c.args.p))

@@ -7,10 +7,11 @@ use Rattle.volume.proofs.consistent.TestLaws.{row_ends_lem}
 use Rattle.volume.proofs.consistent.map_test.row_agrees.Goals as goal
 
 pub pair_at-requires : goal.pair_at-requires
-pair_at-requires c = let p = c.requires in pair_inside p.0 _ _ _ p.1 p.2 (omega arith)
+pair_at-requires c = pair_inside c.args.v.now.whole _ _ _ c.requires.0 c.requires.1 (omega arith)
 
 pub returns-then-points_agree : goal.returns-then-points_agree
 returns-then-points_agree c =
     let a = c.args in
+    let v = a.v.now in
     both_passed c.points_agree.ensures c.if-points_agree.true
-    (row_ends_lem (cell_group a.cell) (cell_halves a.cell) a.volume.now a.z a.x c.pair_at.ensures c.is_zero.ensures)
+    (row_ends_lem (cell_group v.cell) (cell_halves v.cell) v.volume.now a.z a.x c.pair_at.ensures c.is_zero.ensures)

@@ -1,5 +1,7 @@
 // The factor at any index of the cell, read from a volume of packed factors: the one at its own stored place, or what the
 // one at the stored index of its orbit implies; and whether the numbers it is read from are residues.
+//
+// As in stored.rt, residues are asked only of those numbers.
 ghost use Rattle.std.specs.Prelude.{◌≡◌, true, ◌+◌, ◌/◌, ◌<◌, ◌≤◌, length};
 ghost use Rattle.algebra.specs.cells.Cell.{span, image_of};
 ghost use Rattle.algebra.specs.cells.CellPlaces.{line_sym};

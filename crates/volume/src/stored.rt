@@ -1,4 +1,7 @@
 // What stands at the stored places of a volume: a pair, a factor, the number of a point.
+//
+// A factor asks residues only of the numbers that it is read from, so that these functions take the modulus, the cell and the volume, and no
+// Residues, which asks them of all.
 ghost use Rattle.std.specs.Prelude.{◌≡◌, true, ℕ, ◌/◌, get_or};
 ghost use Rattle.algebra.specs.lines.Kinds.{Kind.alternating};
 ghost use Rattle.numbers.specs.Value.{prime, IsModulus, pair_of};

@@ -5,7 +5,7 @@ ghost use Rattle.std.specs.Prelude.{◌≡◌};
 ghost use Rattle.job.specs.Answers.{said, job_after, said_open, said_point, said_factor, said_power, reply_of};
 ghost use Rattle.combined.specs.Answers.{said_count};
 ghost use Rattle.factor_file.specs.Answers.{said_file, said_header, said_size};
-ghost use Rattle.factor_file.specs.HeaderRead.{named, not_named};
+ghost use Rattle.factor_file.specs.HeaderRead.{not_named};
 ghost use Rattle.faults.specs.Faults.{said_faults};
 ghost use Rattle.output.specs.Answers.{said_fill};
 ghost use Rattle.exported.specs.Answers.{no_axis, no_job, opening_coded, file_answer_coded, faults_coded, point_coded};
@@ -107,147 +107,156 @@ pub struct CountCoded {
     pub density: i64,
 }
 
-pub fn opening_coded(answer: Result<Job, Refusal>) -> JobCoded
-    ensures { result ≡ opening_coded (said_open answer) }
-{
-    match answer {
-        Ok(opened) => JobCoded {
-            number: 0,
-            job: opened,
-        },
-        Err(refusal) => JobCoded {
-            number: refusals::number_of(refusal),
-            job: no_job(),
-        },
+impl From<Result<Job, Refusal>> for JobCoded {
+    ghost from_gives = { λ a c. c ≡ opening_coded (said_open a) };
+
+    fn from(answer: Result<Job, Refusal>) -> JobCoded {
+        match answer {
+            Ok(opened) => JobCoded {
+                number: 0,
+                job: opened,
+            },
+            Err(refusal) => JobCoded {
+                number: refusals::number_of(refusal),
+                job: no_job(),
+            },
+        }
     }
 }
 
-pub fn file_coded(answer: Result<Job, FileRefusal>) -> FileCoded
-    ensures { result ≡ file_answer_coded (said_file answer) }
-{
-    match answer {
-        Ok(opened) => FileCoded {
-            number: 0,
-            place: 0,
-            job: opened,
-        },
-        Err(refused) => FileCoded {
-            number: refusals::number_of(refused.refusal),
-            place: refused.place,
-            job: no_job(),
-        },
+impl From<Result<Job, FileRefusal>> for FileCoded {
+    ghost from_gives = { λ a c. c ≡ file_answer_coded (said_file a) };
+
+    fn from(answer: Result<Job, FileRefusal>) -> FileCoded {
+        match answer {
+            Ok(opened) => FileCoded {
+                number: 0,
+                place: 0,
+                job: opened,
+            },
+            Err(refused) => FileCoded {
+                number: refusals::number_of(refused.refusal),
+                place: refused.place,
+                job: no_job(),
+            },
+        }
     }
 }
 
-pub fn faults_coded(answer: Faults) -> FaultsCoded
-    ensures { result ≡ faults_coded (said_faults answer) }
-{
-    match answer {
-        Faults::NoFault => FaultsCoded {
-            count: 0,
-            first: 0,
-            second: 0,
-        },
-        Faults::One(place) => FaultsCoded {
-            count: 1,
-            first: place,
-            second: 0,
-        },
-        Faults::Two(first, second) => FaultsCoded {
-            count: 2,
-            first,
-            second,
-        },
+impl From<Faults> for FaultsCoded {
+    ghost from_gives = { λ a c. c ≡ faults_coded (said_faults a) };
+
+    fn from(answer: Faults) -> FaultsCoded {
+        match answer {
+            Faults::NoFault => FaultsCoded {
+                count: 0,
+                first: 0,
+                second: 0,
+            },
+            Faults::One(place) => FaultsCoded {
+                count: 1,
+                first: place,
+                second: 0,
+            },
+            Faults::Two(first, second) => FaultsCoded {
+                count: 2,
+                first,
+                second,
+            },
+        }
     }
 }
 
-// Of a record, a synthesis and an analysis: a refused one leaves the job as it was held.
-pub fn answered_coded(held: Job, answer: Result<Job, Refusal>) -> JobCoded
-    ensures { result ≡ record { number = (reply_of (said answer)).number; job = job_after held answer } }
-{
-    JobCoded {
-        number: reply::of_answer(answer).number,
-        job: answer.unwrap_or(held),
+impl JobCoded {
+    // Of a record, a synthesis and an analysis: a refused one leaves the job as it was held.
+    pub fn answered(held: Job, answer: Result<Job, Refusal>) -> JobCoded
+        ensures { result ≡ record { number = (reply_of (said answer)).number; job = job_after held answer } }
+    {
+        JobCoded {
+            number: reply::of_answer(answer).number,
+            job: answer.unwrap_or(held),
+        }
     }
 }
 
-pub fn point_coded(answer: Result<i32, Refusal>) -> PointCoded
-    ensures { result ≡ point_coded (said_point answer) }
-{
-    match answer {
-        Ok(density) => PointCoded { number: 0, density },
-        Err(refusal) => PointCoded {
-            number: refusals::number_of(refusal),
-            density: 0,
-        },
+impl From<Result<i32, Refusal>> for PointCoded {
+    ghost from_gives = { λ a c. c ≡ point_coded (said_point a) };
+
+    fn from(answer: Result<i32, Refusal>) -> PointCoded {
+        match answer {
+            Ok(density) => PointCoded { number: 0, density },
+            Err(refusal) => PointCoded {
+                number: refusals::number_of(refusal),
+                density: 0,
+            },
+        }
     }
 }
 
-pub fn factor_coded(answer: Result<Pair, Refusal>) -> FactorCoded
-    ensures { result ≡ factor_coded (said_factor answer) }
-{
-    match answer {
-        Ok(x) => FactorCoded {
-            number: 0,
-            a: x.re,
-            b: x.im,
-        },
-        Err(refusal) => FactorCoded {
-            number: refusals::number_of(refusal),
-            a: 0,
-            b: 0,
-        },
+impl From<Result<Pair, Refusal>> for FactorCoded {
+    ghost from_gives = { λ a c. c ≡ factor_coded (said_factor a) };
+
+    fn from(answer: Result<Pair, Refusal>) -> FactorCoded {
+        match answer {
+            Ok(x) => FactorCoded {
+                number: 0,
+                a: x.re,
+                b: x.im,
+            },
+            Err(refusal) => FactorCoded {
+                number: refusals::number_of(refusal),
+                a: 0,
+                b: 0,
+            },
+        }
     }
 }
 
-pub fn power_coded(answer: Result<u32, Refusal>) -> PowerCoded
-    ensures { result ≡ power_coded (said_power answer) }
-{
-    match answer {
-        Ok(power) => PowerCoded { number: 0, power },
-        Err(refusal) => PowerCoded {
-            number: refusals::number_of(refusal),
-            power: 0,
-        },
+impl From<Result<u32, Refusal>> for PowerCoded {
+    ghost from_gives = { λ a c. c ≡ power_coded (said_power a) };
+
+    fn from(answer: Result<u32, Refusal>) -> PowerCoded {
+        match answer {
+            Ok(power) => PowerCoded { number: 0, power },
+            Err(refusal) => PowerCoded {
+                number: refusals::number_of(refusal),
+                power: 0,
+            },
+        }
     }
 }
 
-pub fn filled_coded(answer: Result<usize, Refusal>) -> WriteCoded
-    ensures { result ≡ writing_coded (said_fill answer) }
-{
-    match answer {
-        Ok(written) => WriteCoded { number: 0, written },
-        Err(refusal) => WriteCoded {
-            number: refusals::number_of(refusal),
-            written: 0,
-        },
+impl From<Result<usize, Refusal>> for WriteCoded {
+    ghost from_gives = { λ a c. c ≡ writing_coded (said_fill a) };
+
+    fn from(answer: Result<usize, Refusal>) -> WriteCoded {
+        match answer {
+            Ok(written) => WriteCoded { number: 0, written },
+            Err(refusal) => WriteCoded {
+                number: refusals::number_of(refusal),
+                written: 0,
+            },
+        }
     }
 }
 
-pub fn header_coded(answer: Result<FileHeader, Refusal>) -> HeaderCoded
-    ensures { result ≡ header_coded (said_header answer) }
-{
-    match answer {
-        Ok(found) => header_named(found),
-        Err(refusal) => header_refused(refusals::number_of(refusal)),
-    }
-}
+impl From<Result<FileHeader, Refusal>> for HeaderCoded {
+    ghost from_gives = { λ a c. c ≡ header_coded (said_header a) };
 
-fn header_named(found: FileHeader) -> HeaderCoded
-    ensures { result ≡ header_coded (named found) }
-{
-    let a = found.a;
-    let b = found.b;
-    let c = found.c;
-    HeaderCoded {
-        number: 0,
-        group: found.group,
-        modulus: found.modulus,
-        a,
-        b,
-        c,
-        records: found.records,
-        numbers: found.numbers,
+    fn from(answer: Result<FileHeader, Refusal>) -> HeaderCoded {
+        match answer {
+            Ok(found) => HeaderCoded {
+                number: 0,
+                group: found.group,
+                modulus: found.modulus,
+                a: found.a,
+                b: found.b,
+                c: found.c,
+                records: found.records,
+                numbers: found.numbers,
+            },
+            Err(refusal) => header_refused(refusals::number_of(refusal)),
+        }
     }
 }
 
@@ -266,27 +275,31 @@ fn header_refused(number: u32) -> HeaderCoded
     }
 }
 
-pub fn length_coded(answer: Result<usize, Refusal>) -> LengthCoded
-    ensures { result ≡ length_coded (said_size answer) }
-{
-    match answer {
-        Ok(length) => LengthCoded { number: 0, length },
-        Err(refusal) => LengthCoded {
-            number: refusals::number_of(refusal),
-            length: 0,
-        },
+impl From<Result<usize, Refusal>> for LengthCoded {
+    ghost from_gives = { λ a c. c ≡ length_coded (said_size a) };
+
+    fn from(answer: Result<usize, Refusal>) -> LengthCoded {
+        match answer {
+            Ok(length) => LengthCoded { number: 0, length },
+            Err(refusal) => LengthCoded {
+                number: refusals::number_of(refusal),
+                length: 0,
+            },
+        }
     }
 }
 
-pub fn count_coded(answer: Result<i64, Refusal>) -> CountCoded
-    ensures { result ≡ count_coded (said_count answer) }
-{
-    match answer {
-        Ok(density) => CountCoded { number: 0, density },
-        Err(refusal) => CountCoded {
-            number: refusals::number_of(refusal),
-            density: 0,
-        },
+impl From<Result<i64, Refusal>> for CountCoded {
+    ghost from_gives = { λ a c. c ≡ count_coded (said_count a) };
+
+    fn from(answer: Result<i64, Refusal>) -> CountCoded {
+        match answer {
+            Ok(density) => CountCoded { number: 0, density },
+            Err(refusal) => CountCoded {
+                number: refusals::number_of(refusal),
+                density: 0,
+            },
+        }
     }
 }
 

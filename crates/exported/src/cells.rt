@@ -18,31 +18,31 @@ pub struct CellCoded {
     pub gamma: f32,
 }
 
-pub fn parameters_of(cell: CellCoded) -> CellParameters
-    ensures { result ≡ parameters_of cell }
-{
-    if cell.angles == 3 {
-        CellParameters::Triclinic {
-            a: cell.a,
-            b: cell.b,
-            c: cell.c,
-            alpha: cell.alpha,
-            beta: cell.beta,
-            gamma: cell.gamma,
-        }
-    } else if cell.angles == 1 {
-        CellParameters::Monoclinic {
-            a: cell.a,
-            b: cell.b,
-            c: cell.c,
-            gamma: cell.gamma,
-        }
-    } else {
-        CellParameters::Monoclinic {
-            a: 0.0,
-            b: 0.0,
-            c: 0.0,
-            gamma: 0.0,
+impl From<CellCoded> for CellParameters {
+    ghost from_gives = { λ c p. p ≡ parameters_of c };
+
+    fn from(cell: CellCoded) -> CellParameters {
+        match cell.angles {
+            3 => CellParameters::Triclinic {
+                a: cell.a,
+                b: cell.b,
+                c: cell.c,
+                alpha: cell.alpha,
+                beta: cell.beta,
+                gamma: cell.gamma,
+            },
+            1 => CellParameters::Monoclinic {
+                a: cell.a,
+                b: cell.b,
+                c: cell.c,
+                gamma: cell.gamma,
+            },
+            _ => CellParameters::Monoclinic {
+                a: 0.0,
+                b: 0.0,
+                c: 0.0,
+                gamma: 0.0,
+            },
         }
     }
 }

@@ -37,41 +37,47 @@ pub struct TurnCoded {
     pub scheduler: Scheduler,
 }
 
-pub fn next_coded(answer: Result<Option<u32>, Refusal>) -> NextCoded
-    ensures { result ≡ next_coded (said_next answer) }
-{
-    match answer {
-        Ok(Some(lane)) => NextCoded { number: 0, lane },
-        Ok(None) => NextCoded { number: 0, lane: 0 },
-        Err(refusal) => NextCoded {
-            number: refusals::number_of(refusal),
-            lane: 0,
-        },
+impl From<Result<Option<u32>, Refusal>> for NextCoded {
+    ghost from_gives = { λ a c. c ≡ next_coded (said_next a) };
+
+    fn from(answer: Result<Option<u32>, Refusal>) -> NextCoded {
+        match answer {
+            Ok(Some(lane)) => NextCoded { number: 0, lane },
+            Ok(None) => NextCoded { number: 0, lane: 0 },
+            Err(refusal) => NextCoded {
+                number: refusals::number_of(refusal),
+                lane: 0,
+            },
+        }
     }
 }
 
-// A refused call leaves the scheduler as it was held.
-pub fn lane_coded(held: Scheduler, answer: Result<Scheduler, Refusal>) -> LaneCoded
-    ensures { result ≡ stepped_coded (said_lane answer) (scheduler_after held answer) }
-{
-    match answer {
-        Ok(scheduler) => LaneCoded {
-            number: 0,
-            scheduler,
-        },
-        Err(refusal) => LaneCoded {
-            number: refusals::number_of(refusal),
-            scheduler: held,
-        },
+impl LaneCoded {
+    // A refused call leaves the scheduler as it was held.
+    pub fn answered(held: Scheduler, answer: Result<Scheduler, Refusal>) -> LaneCoded
+        ensures { result ≡ stepped_coded (said_lane answer) (scheduler_after held answer) }
+    {
+        match answer {
+            Ok(scheduler) => LaneCoded {
+                number: 0,
+                scheduler,
+            },
+            Err(refusal) => LaneCoded {
+                number: refusals::number_of(refusal),
+                scheduler: held,
+            },
+        }
     }
 }
 
-pub fn turn_coded(held: Scheduler, answer: Result<Turned, Refusal>) -> TurnCoded
-    ensures { result ≡ (turn_coded (turn_outcome held answer [] [])).0 }
-{
-    match answer {
-        Ok(turned) => turned_coded(turned.progress, turned.scheduler),
-        Err(refusal) => unfinished(refusals::number_of(refusal), 0, held),
+impl TurnCoded {
+    pub fn answered(held: Scheduler, answer: Result<Turned, Refusal>) -> TurnCoded
+        ensures { result ≡ (turn_coded (turn_outcome held answer [] [])).0 }
+    {
+        match answer {
+            Ok(turned) => turned_coded(turned.progress, turned.scheduler),
+            Err(refusal) => unfinished(refusals::number_of(refusal), 0, held),
+        }
     }
 }
 

@@ -43,6 +43,7 @@ use cell::operations::{Point, UnitCell};
 use combined::reading;
 use factor_file::{file_header, open_file};
 use job::{GridPoint, Job, Reflection};
+use mrc::parameters::CellParameters;
 use refusals::Refusal;
 use scheduler::Scheduler;
 
@@ -57,7 +58,7 @@ pub fn recorder_version() -> u32
 pub fn recorder_factor_list(length: u32, out: &mut [u8]) -> WriteCoded
     ensures { (result, out.new) ≡ write_coded (list_step length out.old) }
 {
-    crate::answers::filled_coded(factor_lists::factor_list(length, out))
+    WriteCoded::from(factor_lists::factor_list(length, out))
 }
 
 // Opens a job. A refused opening gives a job of zeros, which every call refuses.
@@ -81,37 +82,35 @@ pub fn recorder_open(
       list3 = f3.now;
     }) kind volume.old) }
 {
-    crate::answers::opening_coded(job::open::open(
-        group, modulus, kind, n1, n2, n3, f1, f2, f3, volume,
-    ))
+    JobCoded::from(job::open::open(group, modulus, kind, n1, n2, n3, f1, f2, f3, volume))
 }
 
 // Opens a job by a factor file. A refused file gives a job of zeros, which every call refuses.
 pub fn recorder_open_file(file: &[u8], volume: &mut [u32]) -> FileCoded
     ensures { (result, volume.new) ≡ file_coded (file_step file.now volume.old) }
 {
-    crate::answers::file_coded(open_file::open_file(file, volume))
+    FileCoded::from(open_file::open_file(file, volume))
 }
 
 // What the header of a factor file names.
 pub fn recorder_file_header(file: &[u8]) -> HeaderCoded
     ensures { result ≡ header_coded (header_step file.now) }
 {
-    crate::answers::header_coded(file_header::file_header(file))
+    HeaderCoded::from(file_header::file_header(file))
 }
 
 // The fewest records at fault of a factor file.
 pub fn recorder_file_faults(file: &[u8]) -> FaultsCoded
     ensures { result ≡ faults_coded (faults_in file.now) }
 {
-    crate::answers::faults_coded(faults::file_faults(file))
+    FaultsCoded::from(faults::file_faults(file))
 }
 
 // How long the factor file of a job that holds factors is.
 pub fn recorder_file_length(held: Job, volume: &[u32]) -> LengthCoded
     ensures { result ≡ length_coded (length_step held volume.now) }
 {
-    crate::answers::length_coded(factor_file::writer::file_length(held, volume))
+    LengthCoded::from(factor_file::writer::file_length(held, volume))
 }
 
 // Writes the factor file of a job that holds factors.
@@ -119,14 +118,14 @@ pub fn recorder_write_file(held: Job, volume: &[u32], out: &mut [u8]) -> WriteCo
     ensures { (result, out.new)
         ≡ write_coded (write_step held volume.now out.old) }
 {
-    crate::answers::filled_coded(factor_file::writer::write_file(held, volume, out))
+    WriteCoded::from(factor_file::writer::write_file(held, volume, out))
 }
 
 // Records the structure factor a + b i at an index.
 pub fn recorder_record(held: Job, at: Reflection, a: u32, b: u32, volume: &mut [u32]) -> JobCoded
     ensures { (result, volume.new) ≡ record_coded (record_step held at a b volume.old) }
 {
-    crate::answers::answered_coded(held, held.record(at, a, b, volume))
+    JobCoded::answered(held, held.record(at, a, b, volume))
 }
 
 // From factors to the map.
@@ -134,7 +133,7 @@ pub fn recorder_synthesis(held: Job, volume: &mut [u32], scratch: &mut [u32]) ->
     ensures { (result, volume.new, scratch.new)
         ≡ work_coded (synthesis_step held volume.old scratch.old) }
 {
-    crate::answers::answered_coded(held, held.synthesis(volume, scratch))
+    JobCoded::answered(held, held.synthesis(volume, scratch))
 }
 
 // From the map to its factors.
@@ -142,35 +141,35 @@ pub fn recorder_analysis(held: Job, volume: &mut [u32], scratch: &mut [u32]) -> 
     ensures { (result, volume.new, scratch.new)
         ≡ work_coded (analysis_step held volume.old scratch.old) }
 {
-    crate::answers::answered_coded(held, held.analysis(volume, scratch))
+    JobCoded::answered(held, held.analysis(volume, scratch))
 }
 
 // Reads a point of the map.
 pub fn recorder_point(held: Job, at: GridPoint, volume: &[u32]) -> PointCoded
     ensures { result ≡ point_coded (point_step held at volume.now).answer }
 {
-    crate::answers::point_coded(held.point(at, volume))
+    PointCoded::from(held.point(at, volume))
 }
 
 // Reads a structure factor.
 pub fn recorder_factor(held: Job, at: Reflection, volume: &[u32]) -> FactorCoded
     ensures { result ≡ factor_coded (factor_step held at volume.now).answer }
 {
-    crate::answers::factor_coded(held.factor(at, volume))
+    FactorCoded::from(held.factor(at, volume))
 }
 
 // The power of a map: the sum of its squares over the whole cell, modulo the prime.
 pub fn recorder_map_power(held: Job, volume: &[u32]) -> PowerCoded
     ensures { result ≡ power_coded (map_power_step held volume.now).answer }
 {
-    crate::answers::power_coded(held.map_power(volume))
+    PowerCoded::from(held.map_power(volume))
 }
 
 // The power of factors: the sum of F times its conjugate over the whole cell, modulo the prime.
 pub fn recorder_factor_power(held: Job, volume: &[u32]) -> PowerCoded
     ensures { result ≡ power_coded (factor_power_step held volume.now).answer }
 {
-    crate::answers::power_coded(held.factor_power(volume))
+    PowerCoded::from(held.factor_power(volume))
 }
 
 // Combines two maps of one cell, one for each prime.
@@ -186,9 +185,7 @@ pub fn recorder_combine(
         (combine_step first first_map.now second second_map.now
         output.old) }
 {
-    crate::answers::filled_coded(combining::combine_maps(
-        first, first_map, second, second_map, output,
-    ))
+    WriteCoded::from(combining::combine_maps(first, first_map, second, second_map, output))
 }
 
 // Reads a point of a combined map.
@@ -208,7 +205,7 @@ pub fn recorder_combined_point(
         y: at.1,
         z: at.2,
     };
-    crate::answers::count_coded(reading::count(unit, point, map))
+    CountCoded::from(reading::count(unit, point, map))
 }
 
 // A plane of a combined map as a page of text.
@@ -224,7 +221,7 @@ pub fn recorder_section(
     ensures { (result, out.new)
         ≡ write_coded (section_step group (n1, n2, n3) map.now z out.old) }
 {
-    crate::answers::filled_coded(section::section_text(group, n1, n2, n3, map, z, out))
+    WriteCoded::from(section::section_text(group, n1, n2, n3, map, z, out))
 }
 
 // The whole cell of a combined map as a file in the format MRC2014.
@@ -243,7 +240,7 @@ pub fn recorder_mrc(
         out.old) }
 {
     let unit = UnitCell { group, n1, n2, n3 };
-    crate::answers::filled_coded(mrc::mrc_map(unit, map, crate::cells::parameters_of(cell), out))
+    WriteCoded::from(mrc::mrc_map(unit, map, CellParameters::from(cell), out))
 }
 
 // The correlation of two combined maps of P1, at every shift.
@@ -273,7 +270,7 @@ pub fn recorder_correlate(
         (buffers output.old work1.old work2.old work3.old
         scratch.old)) }
 {
-    crate::answers::filled_coded(correlation::correlate(
+    WriteCoded::from(correlation::correlate(
         n1, n2, n3, f1, f2, f3, a, b, output, work1, work2, work3, scratch,
     ))
 }
@@ -329,7 +326,7 @@ pub fn recorder_drift(
           place_of_greatest = greatest_at.old;
         })) }
 {
-    crate::answers::filled_coded(sliding_window::window_extremes(
+    WriteCoded::from(sliding_window::window_extremes(
         run,
         w,
         least,
@@ -350,7 +347,7 @@ pub fn recorder_scheduler_new() -> Scheduler
 pub fn recorder_scheduler_next(held: Scheduler) -> NextCoded
     ensures { result ≡ next_coded (next_step held) }
 {
-    crate::lanes::next_coded(held.next())
+    NextCoded::from(held.next())
 }
 
 // A job enters a lane.
@@ -364,7 +361,7 @@ pub fn recorder_scheduler_enter(
     ensures { (result, scratch.new)
         ≡ enter_coded (enter_step held lane job volume.now scratch.old) }
 {
-    crate::lanes::lane_coded(held, held.enter(lane, job, volume, scratch))
+    LaneCoded::answered(held, held.enter(lane, job, volume, scratch))
 }
 
 // One line of the lane whose turn is next, in the volume of that lane.
@@ -376,12 +373,12 @@ pub fn recorder_scheduler_turn(
     ensures { (result, volume.new, scratch.new)
         ≡ turn_coded (turn_step held volume.old scratch.old) }
 {
-    crate::lanes::turn_coded(held, held.turn(volume, scratch))
+    TurnCoded::answered(held, held.turn(volume, scratch))
 }
 
 // A job leaves its lane before it is finished.
 pub fn recorder_scheduler_withdraw(held: Scheduler, lane: u32) -> LaneCoded
     ensures { result ≡ lane_coded (withdraw_step held lane) }
 {
-    crate::lanes::lane_coded(held, held.withdraw(lane))
+    LaneCoded::answered(held, held.withdraw(lane))
 }

@@ -3,4 +3,3 @@ pub mod Walking
 pub mod Parsing
 pub mod Rewriting
 pub mod WrittenFiles
-pub mod Orders

@@ -7,7 +7,7 @@ use native.Mathlib.Nat.{zero-add, suc-add}
 use native.Mathlib.Omega.{arith}
 use lib.Dec.{eqb}
 use lib.ListN.{take, drop}
-use lib.Seq.{take-nil, drop-nil, take-take}
+use lib.Seq.{take-nil, take-take}
 use Rattle.file_format.specs.Format.{byte_at, version_at, modulus_at, modulus_in, lengths_at, list_at, after_list, list1_at, list2_at, list3_at, count_at}
 use Rattle.file_format.proofs.integers.Numbers.{same_byte}
 use Rattle.file_format.proofs.places.Versions.{lengths_low}

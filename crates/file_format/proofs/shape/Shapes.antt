@@ -8,7 +8,7 @@ use native.Mathlib.Omega.{arith}
 use native.Mathlib.Decide.{ℕ_discrete}
 use lib.ListN.{length, take, drop}
 use lib.Dec.{ltb, eqb}
-use borrow.Author.Tests.{lt-ltb, le-ltb, ltb-false, eq-eqb, ne_eqb, eqb-true, not-false}
+use borrow.Author.Tests.{le-ltb, ltb-false, eq-eqb, ne_eqb, eqb-true, not-false}
 use Rattle.refusals.specs.Refusals.{◌⇒◌, first}
 use Rattle.refusals.proofs.Tests.{stop, pass, none, not_t, not_f, passed}
 use Rattle.file_format.proofs.integers.Numbers.{same_byte, same_four_bytes}
@@ -30,9 +30,6 @@ or_first true b f e = refl
 or_first false b f e = sym f ∙ e
 
 module _ (file : List ℕ) where
-  pub too_short : length file < 5 → true ≡ miscounted file
-  too_short h = rw (lt-ltb _ _ h)
-
   pub counted : 5 ≤ length file → not (eqb (four_bytes file 0) (length file - 4)) ≡ miscounted file
   counted h = rw (le-ltb _ _ h)
 

@@ -5,16 +5,15 @@ use Prim.Native.Nat.{ℕ, zero, suc, ◌+◌, ◌*◌, ◌<◌, ◌≤◌}
 use native.Mathlib.Nat.{mul-pos, mul_comm}
 use native.Mathlib.Omega.{arith}
 use lib.Dec.{T, ltb, le→leb, lt→ltb}
-use lib.IntN.{ℤ, pos, negsuc, nat_abs, pred_ℤ, ◌-ℤ◌, -ℤ_one}
+use lib.IntN.{ℤ, pos, negsuc, nat_abs, pred_ℤ}
 use lib.Signed.{lt_z}
-use lib.Ieee.{Float, nan, inf, fin, binary32, up, down, below, lt, of_int, of_bits, to_bits, to_signed, in_float, is_nan}
+use lib.Ieee.{Float, nan, inf, fin, binary32, up, down, below, lt, of_int, of_bits, to_signed, in_float, is_nan}
 use lib.Ieee.Exact.{HasValue}
 use lib.Ieee.Back.{round_whole, positive_back, negative_back}
 use lib.Ieee.Bits.{of_bits-to_bits, to_bits-lt}
 use lib.Ieee.Fits.{of_int-fits, down_pos}
 use mir.Syntax.{w64}
-use mir.Val.{SFits, to_z, of_z}
-use mir.ValLaws.{to_z-of_z}
+use mir.Val.{SFits}
 use borrow.Author.Tests.{ltb-true, lt-ltb, le-ltb}
 use Rattle.slices.proofs.Rows.{row_end}
 use Rattle.output.specs.Output.{little_endian}
@@ -27,7 +26,7 @@ unfolding of_int
 whole_value (pos n) l = subst (λ (s : Bool). HasValue (of_int binary32 (pos n)) s n 1) (sym (le-ltb n 0 (omega arith))) (round_whole binary32 false n (omega arith))
 whole_value (negsuc n) l = round_whole binary32 true (suc n) (omega arith)
 
-pub in_float_lem : (n : ℤ) → nat_abs n ≤ suc exact_limit → T (in_float binary32 n)
+in_float_lem : (n : ℤ) → nat_abs n ≤ suc exact_limit → T (in_float binary32 n)
 unfolding in_float
 in_float_lem (pos n) l = le→leb n 16777216 (omega arith)
 in_float_lem (negsuc n) l = lt→ltb n 16777216 (omega arith)
@@ -100,21 +99,6 @@ one_less_within (negsuc n) l = omega arith
 
 -- ---- in 64 bits
 
-pub held_within : (n : ℤ) → SFits w64 n → nat_abs n ≤ exact_limit → nat_abs (to_z w64 (of_z w64 n)) ≤ suc exact_limit
-held_within n f l = subst (λ (z : ℤ). nat_abs z ≤ suc exact_limit) (sym (to_z-of_z w64 n f)) (omega arith)
-
-small_fits : (n : ℤ) → nat_abs n ≤ suc exact_limit → SFits w64 n
+pub small_fits : (n : ℤ) → nat_abs n ≤ suc exact_limit → SFits w64 n
 small_fits (pos n) l = record { sfits = omega arith }
 small_fits (negsuc n) l = record { sfits = omega arith }
-
-one_less_is : (n : ℤ) → SFits w64 n → to_z w64 (of_z w64 n) -ℤ pos 1 ≡ pred_ℤ n
-one_less_is n f = ap (λ (z : ℤ). z -ℤ pos 1) (to_z-of_z w64 n f) ∙ -ℤ_one n
-
-pub one_less_fits : (n : ℤ) → SFits w64 n → nat_abs n ≤ exact_limit → SFits w64 (to_z w64 (of_z w64 n) -ℤ pos 1)
-one_less_fits n f l = subst (SFits w64) (sym (one_less_is n f)) (small_fits (pred_ℤ n) (one_less_within n l))
-
-pub one_less_held : (n : ℤ) → SFits w64 n → nat_abs n ≤ exact_limit → to_z w64 (of_z w64 (to_z w64 (of_z w64 n) -ℤ pos 1)) ≡ n -ℤ pos 1
-one_less_held n f l = to_z-of_z w64 (to_z w64 (of_z w64 n) -ℤ pos 1) (one_less_fits n f l) ∙ ap (λ (z : ℤ). z -ℤ pos 1) (to_z-of_z w64 n f)
-
-pub mean_within : (n : ℤ) → SFits w64 n → nat_abs n ≤ exact_limit → nat_abs (to_z w64 (of_z w64 (to_z w64 (of_z w64 n) -ℤ pos 1))) ≤ suc exact_limit
-mean_within n f l = subst (λ (z : ℤ). nat_abs z ≤ suc exact_limit) (sym (one_less_held n f l ∙ -ℤ_one n)) (one_less_within n l)

@@ -48,12 +48,14 @@ fn is_gamma(group: u32, x: f32) -> bool
     if group == 4 { x == 90.0 } else { is_angle(x) }
 }
 
+#[tactic(auto, unfolding(crate::specs::Parameters::are_edges))]
 fn are_edges(a: f32, b: f32, c: f32) -> bool
     ensures { result ≡ are_edges a b c }
 {
     is_edge(a) & (is_edge(b) & is_edge(c))
 }
 
+#[tactic(auto, unfolding(crate::specs::Parameters::are_angles))]
 fn are_angles(alpha: f32, beta: f32, gamma: f32) -> bool
     ensures { result ≡ are_angles alpha beta gamma }
 {

@@ -16,6 +16,7 @@ pub fn window_count(length: usize, w: u32) -> usize
 }
 
 // The refusals, in the paper's order. The outputs count by their lengths alone.
+#[tactic(auto, using(refusals::proofs::Tests::refusals))]
 pub fn check_window(
     w: u32,
     count: usize,

@@ -1,5 +1,4 @@
 -- Refused by a test, or the list is written.
-use borrow.Author.Rules.{rules}
 use native.Mathlib.Omega.{arith}
 use mathlib.Core.Path.{◌≡◌, ap, ◌∙◌}
 use mathlib.Core.Bool.{true, false}
@@ -15,8 +14,7 @@ use Rattle.output.specs.Written.{Wrote}
 use Rattle.output.proofs.Writing.{wrote_filled}
 use Rattle.factor_lists.specs.Chosen.{chosen_list, list_step}
 use Rattle.factor_lists.proofs.Fewest.{chosen_product}
-use Rattle.factor_lists.proofs.factor_list.Statement.{statement}
-use Rattle.factor_lists.proofs.factor_list.Tie as tie
+use Rattle.factor_lists.proofs.factor_list.Goals as goal
 
 -- what the number of the first test makes of it
 abbrev told : (list output : List ℕ) → ℕ → FillOutcome
@@ -36,34 +34,19 @@ module _ (N : ℕ) (output : List ℕ) where
     unfolding list_step
     listed h p = wrote_filled p h ∙ ap (told (chosen_list N) output) (pass 3 _ (not_t _ e) (pass 18 _ (le-ltb (length output) (length (chosen_list N)) h) none))
 
-sound : (c : tie.Else-not-admitted) → admitted c.args.length ≡ true
-sound c = by_true _ _ c.admitted.ensures c.if-not-admitted.false
-
-admitted-requires : tie.Need-admitted-requires
-admitted-requires c κs = search rules
-
-returns-then-not-admitted : tie.Need-returns-then-not-admitted
+pub returns-then-not-admitted : goal.returns-then-not-admitted
 returns-then-not-admitted c = not_admitted _ _ (by_false _ _ c.admitted.ensures c.if-not-admitted.true)
 
-count_factors-requires : tie.Need-count_factors-requires
-count_factors-requires c κs = chosen_product _ (sound c)
+pub count_factors-requires : goal.count_factors-requires
+count_factors-requires c = chosen_product _ (by_true _ _ c.admitted.ensures c.if-not-admitted.false)
 
-returns-then-out-count_factors : tie.Need-returns-then-out-count_factors
-returns-then-out-count_factors c = no_room _ _ (sound c.before.before) (omega (arith, c.count_factors.ensures, c.if-out-count_factors.true))
+pub returns-then-out-count_factors : goal.returns-then-out-count_factors
+returns-then-out-count_factors c =
+    no_room _ _ (by_true _ _ c.admitted.ensures c.if-not-admitted.false) (omega (arith, c.count_factors.ensures, c.if-out-count_factors.true))
 
-put_factors-requires : tie.Need-put_factors-requires
-put_factors-requires c κs = chosen_product _ (sound c.before.before.before)
+pub put_factors-requires : goal.put_factors-requires
+put_factors-requires c = chosen_product _ (by_true _ _ c.admitted.ensures c.if-not-admitted.false)
 
-shape_of-out : tie.Need-shape_of-out
-shape_of-out c = search rules
-
-returns : tie.Need-returns
+pub returns : goal.returns
 returns c =
-    let p = c.before.before in
-    let t = p.before.before in
-    listed _ _ (sound t.before.before) (omega (arith, t.count_factors.ensures, t.if-out-count_factors.false)) p.put_factors.ensures
-
-pub factor_list_spec : {M : Type 1} → statement M
-factor_list_spec =
-    tie.close
-    (tie.spec admitted-requires returns-then-not-admitted count_factors-requires returns-then-out-count_factors put_factors-requires shape_of-out returns)
+    listed _ _ (by_true _ _ c.admitted.ensures c.if-not-admitted.false) (omega (arith, c.count_factors.ensures, c.if-out-count_factors.false)) c.put_factors.ensures

@@ -16,9 +16,9 @@ ghost use Rattle.cell.specs.Lent.{of_residues};
 ghost use Rattle.power.specs.Power.{map_power, factor_power};
 ghost use Rattle.power.specs.PowerSteps.{layer_twice, squares, row_power, layer_power, stored_power};
 
+use cell::lent::Residues;
 use cell::operations::UnitCell;
 use cell::places;
-use cell::lent::Residues;
 
 // The sum of the squares of a map of residues.
 pub fn map_power(m: u32, cell: UnitCell, volume: &[u32]) -> u32

@@ -12,6 +12,8 @@ use Rattle.algebra.specs.ring.Ring.{pow}
 use Rattle.numbers.specs.Value.{prime, IsModulus, Value, field}
 use Rattle.numbers.proofs.Primes.{prime_most}
 use Rattle.roots.specs.Table.{table_root, RootTable}
+use Rattle.slices.specs.Pairs.{at, fills}
+use Rattle.slices.proofs.Pairs.{fills_whole}
 use Rattle.slices.proofs.Values.{length_of_lem, below_of}
 use Rattle.lengths.specs.declared.stage.Stage.{Stage}
 use Rattle.lengths.specs.Lengths.{product, factors_ok, octal_digits}
@@ -124,6 +126,14 @@ pub record DrivingLanes (m : ℕ) (W : Value m) (factors n : ℕ) (s : Stage) (l
   pub place : ℕ
   pub stands : StandingLanes m W factors n line₀ place s line
   pub work_long : length work ≡ 32 * n
+
+-- copied from the work slice
+pub lanes_copied : {m : ℕ} {W : Value m} {factors n : ℕ} {line₀ : List ℕ} (line : List ℕ) {work line' : List ℕ} → TransformedLanes m W factors n line₀ work → length line ≡ 32 * n → line' ≡ fills (at work) (16 * n) line
+    → TransformedLanes m W factors n line₀ line'
+lanes_copied {m} {W} {factors} {n} {line₀} line {work} h long is =
+    subst (TransformedLanes m W factors n line₀) (sym (is ∙ fills_whole (16 * n) work line (omega (arith, h.long)) (omega (arith, long)))) h
+
+-- ---- the step of a stage
 
 module _ {s : Stage} (a : Ahead s) {s' : Stage} (e : s' ≡ after s) where
   lines_after : s.lines / (s.left % 8) ≡ s'.lines

@@ -45,7 +45,7 @@ pub fn transform<'a>(
     }
     if at.left != 0 {
         next_step(m, re, im, sre, sim, at, line, work);
-        line.copy_from_slice(work);
+        slices::copy(work, line, 16 * n);
     }
 }
 

@@ -1,7 +1,7 @@
 -- The invariant of the loop over the steps is `DrivingLanes`.
 use Rattle.std.proofs.Common.{arith}
 use Rattle.plain.proofs.Driving.{after_left}
-use Rattle.batches.proofs.DrivingLanes.{lent_lanes, lanes_start, lanes_asks, lanes_next, lanes_end}
+use Rattle.batches.proofs.DrivingLanes.{lent_lanes, lanes_start, lanes_asks, lanes_next, lanes_end, lanes_copied}
 use Rattle.batches.proofs.transform.transform.Goals as goal
 
 pub loop-at-init : goal.loop-at-init
@@ -52,7 +52,7 @@ returns-then-at-ne0 c =
     let e = c.next_step.ensures.value in
     let s = c.next_step.ensures.stepped_lanes in
     let h = lanes_next lent c.loop-at.invariant.stands (omega arith) e s.0 s.1 (omega (arith, c.loop-at.invariant.work_long)) in
-    rw c.copy_from_slice.ensures.after (lanes_end lent h (omega (arith, after_left c.loop-at.at e)))
+    lanes_copied c.loop-at.line (lanes_end lent h (omega (arith, after_left c.loop-at.at e))) c.loop-at.invariant.stands.long c.copy.ensures
 
 pub returns-else-at-ne0 : goal.returns-else-at-ne0
 returns-else-at-ne0 c = lanes_end (lent_lanes c.requires.modulus c.requires.factored c.requires.line_len.0 c.requires.line_len.2) c.loop-at.invariant.stands (omega arith)

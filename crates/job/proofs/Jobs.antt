@@ -1,10 +1,8 @@
 -- Which jobs are valid, from the tests of their numbers; and a job is that of its header.
 use mathlib.Core.Path.{◌≡◌, sym, ap, subst, ◌∙◌}
 use mathlib.Core.Bool.{Bool, true, false, ◌&&◌, not}
-use mathlib.Core.List.{List}
 use Prim.Native.Nat.{ℕ, ◌≤◌, ◌<◌}
 use lib.Dec.{ltb, eqb}
-use lib.ListN.{length}
 use borrow.Author.Tests.{lt-ltb, le-ltb, ltb-true, eq-eqb, eqb-true}
 use Rattle.lengths.specs.Lengths.{octal, factors_ok, octal_digits}
 use Rattle.refusals.specs.Refusals.{first}
@@ -14,11 +12,9 @@ use Rattle.numbers.specs.Value.{is_modulus, IsModulus}
 use Rattle.numbers.proofs.ModulusCases.{tested_modulus}
 use Rattle.lengths.proofs.Factors.{octal_digits_lem}
 use Rattle.cell.specs.declared.operations.UnitCell.{UnitCell}
-use Rattle.algebra.specs.cells.Cell.{J}
-use Rattle.cell.specs.Operations.{cell_group, cell_halves, cell_lengths, Sizes}
-use Rattle.cell.specs.Volume.{volume_length}
+use Rattle.cell.specs.Operations.{Sizes}
 use Rattle.volume_transform.specs.Axes.{JobSizes}
-use Rattle.job.specs.Job.{Header, axis_tests, job_of, job_cell, header_of, with_state, valid_job, fits, within}
+use Rattle.job.specs.Job.{Header, axis_tests, job_of, job_cell, header_of, with_state, valid_job}
 use Rattle.job.specs.declared.Job.{Job}
 use Rattle.header.proofs.Headers.{all_three, sound_sizes, sound_axes, sound_lists}
 use Rattle.lengths.proofs.Digits.{octal_of_digits}
@@ -86,13 +82,6 @@ module _ (j : Job) where
   -- what every check of a call is lent where it has found the job valid
   pub cell_sizes : {cell : UnitCell} → cell ≡ job_cell j → valid_job j ≡ true → Sizes cell × IsModulus j.modulus
   cell_sizes e v = (subst Sizes (sym e) (valid_sizes v), valid_modulus v)
-
-  -- .. and what it finds of the volume's length, and of an index or a point
-  pub cell_fits : {cell : UnitCell} (v : List ℕ) {r : Bool} → cell ≡ job_cell j → r ≡ eqb (length v) (volume_length (cell_group cell) (cell_halves cell)) → r ≡ fits j v
-  cell_fits v e q = q ∙ ap (λ (k : UnitCell). eqb (length v) (volume_length (cell_group k) (cell_halves k))) e
-
-  pub cell_within : {cell : UnitCell} (x : J) {r : Bool} → cell ≡ job_cell j → r ≡ within (cell_lengths cell) x → r ≡ within (header_of j).lengths x
-  cell_within x e q = q ∙ ap (λ (k : UnitCell). within (cell_lengths k) x) e
 
   -- .. and what its lines are lent
   pub valid_job_sizes : valid_job j ≡ true → JobSizes (job_cell j) j.a.factors j.b.factors j.c.factors

@@ -1,7 +1,7 @@
 // The refusals of a job's calls: each check answers the first refusal of the paper's order, or that there is none.
 //
-// A check of a call is a method of the job, takes the buffers that the call is lent beside it, and works nothing. Opening, synthesis and analysis read the whole
-// volume; a record and the two readings look only at the numbers that they are about.
+// A check takes plain numbers beside the buffers that the call is lent, and works nothing; a method of the job that has its name asks it of the
+// job's own numbers. Opening, synthesis and analysis read the whole volume; a record and the two readings look only at the numbers that they are about.
 pub mod tests; // check/tests.rt: tests that several calls share
 pub mod map; // check/map.rt: a volume that is a map
 pub mod open; // check/open.rt: the opening

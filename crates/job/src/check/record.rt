@@ -1,12 +1,12 @@
 // The tests of a record: the check answers the first refusal of the paper's order, or that there is none.
 //
-// It takes the job, an index, a value and the lent volume, and works nothing. What the record's own numbers settle is asked of a cell: a file's too.
-ghost use Rattle.std.specs.Prelude.{◌≡◌, ◌&&◌, ltb};
+// It takes the job's numbers, an index, a value and the lent volume, and works nothing. What the record's own numbers settle is asked of a cell: a file's too.
+ghost use Rattle.std.specs.Prelude.{◌≡◌, true, ◌&&◌, ltb};
 ghost use Rattle.numbers.specs.Value.{prime, IsModulus};
 ghost use Rattle.refusals.specs.Refusals.{first};
 ghost use Rattle.refusals.specs.Checks.{checked_number};
 ghost use Rattle.cell.specs.Operations.{cell_lengths, triple_of, Sizes};
-ghost use Rattle.job.specs.Job.{own_tests, record_tests};
+ghost use Rattle.job.specs.Job.{own_tests, record_tests_of, record_tests};
 
 use crate::check::{orbit, tests};
 use crate::{Job, valid};
@@ -41,20 +41,47 @@ pub fn check_own(modulus: u32, cell: UnitCell, at: Index, x: Pair) -> Result<(),
     Ok(())
 }
 
+// 25, 21, the record's own, then the volume's.
+pub fn check_record(
+    valid: bool,
+    state: u32,
+    modulus: u32,
+    cell: UnitCell,
+    at: Index,
+    x: Pair,
+    volume: &[u32],
+) -> Result<(), Refusal>
+    requires { valid ≡ true → Sizes cell × IsModulus modulus }
+    ensures { checked_number result
+        ≡ first
+        (record_tests_of valid state modulus cell.group (cell_lengths cell) (triple_of at) x.re x.im
+        volume.now) }
+{
+    if !valid {
+        return Err(Refusal::ImpossibleJob);
+    }
+    if state != 0 {
+        return Err(Refusal::NotCollecting);
+    }
+    check_own(modulus, cell, at, x)?;
+    orbit::check_orbit(cell, at, volume)
+}
+
 impl Job {
-    // 25, 21, the record's own, then the volume's.
+    // Those of the job's own numbers.
     pub fn check_record(self, at: Index, x: Pair, volume: &[u32]) -> Result<(), Refusal>
         ensures { checked_number result
             ≡ first (record_tests self (triple_of at) x.re x.im volume.now) }
     {
-        if !valid::valid_job(self) {
-            return Err(Refusal::ImpossibleJob);
-        }
-        if self.state != 0 {
-            return Err(Refusal::NotCollecting);
-        }
         let cell = self.unit_cell();
-        check_own(self.modulus, cell, at, x)?;
-        orbit::check_orbit(cell, at, volume)
+        check_record(
+            valid::valid_job(self),
+            self.state,
+            self.modulus,
+            cell,
+            at,
+            x,
+            volume,
+        )
     }
 }

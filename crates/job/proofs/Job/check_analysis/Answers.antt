@@ -1,41 +1,19 @@
--- Each return is the first test that holds, all the others before it being passed over.
-use mathlib.Core.Path.{◌∙◌, ap}
-use borrow.Author.Tests.{eqb-true, eq-eqb, ne_eqb, lt-ltb, le-ltb}
+-- The numbers are the job's own.
+use mathlib.Core.Path.{◌∙◌, ap₂}
+use mathlib.Core.Bool.{Bool}
 use Rattle.refusals.specs.Refusals.{first}
-use Rattle.refusals.proofs.Tests.{stop, pass, not_t, not_f, by_true, by_false}
+use Rattle.refusals.proofs.Tests.{by_true}
 use Rattle.cell.specs.declared.operations.UnitCell.{UnitCell}
 use Rattle.cell.specs.Operations.{cell_lengths}
-use Rattle.job.specs.Job.{map_tests}
-use Rattle.job.proofs.Jobs.{cell_sizes, cell_fits}
+use Rattle.job.specs.Job.{analysis_tests_of}
+use Rattle.job.proofs.Jobs.{cell_sizes}
 use Rattle.job.proofs.Job.check_analysis.Goals as goal
 
-pub returns-then-not-valid_job : goal.returns-then-not-valid_job
-returns-then-not-valid_job c = stop _ (not_f _ (by_false _ _ c.valid_job.ensures c.if-not-valid_job.true))
-
-pub returns-then-self-ne2 : goal.returns-then-self-ne2
-returns-then-self-ne2 c = pass 25 _ (not_t _ (by_true _ _ c.valid_job.ensures c.if-not-valid_job.false)) (stop _ (not_f _ (ne_eqb _ _ c.if-self-ne2.true)))
-
-pub fits-requires : goal.fits-requires
-fits-requires c = (cell_sizes c.args.self c.unit_cell-cell.ensures (by_true _ _ c.valid_job.ensures c.if-not-valid_job.false)).0
-
-pub returns-then-not-fits : goal.returns-then-not-fits
-returns-then-not-fits c =
-    pass 25 _ (not_t _ (by_true _ _ c.valid_job.ensures c.if-not-valid_job.false)) (pass 22 _ (not_t _ (eq-eqb _ _ c.if-self-ne2.false))
-    (stop _ (not_f _ (by_false _ _ (cell_fits c.args.self c.args.volume.now c.unit_cell-cell.ensures c.fits.ensures) c.if-not-fits.true))))
-
-pub returns-then-scratch-lt11520 : goal.returns-then-scratch-lt11520
-returns-then-scratch-lt11520 c =
-    pass 25 _ (not_t _ (by_true _ _ c.valid_job.ensures c.if-not-valid_job.false)) (pass 22 _ (not_t _ (eq-eqb _ _ c.if-self-ne2.false))
-    (pass 6 _ (not_t _ (by_true _ _ (cell_fits c.args.self c.args.volume.now c.unit_cell-cell.ensures c.fits.ensures) c.if-not-fits.false)) (stop _ (lt-ltb _ _ c.if-scratch-lt11520.true))))
-
-pub check_map-requires : goal.check_map-requires
-check_map-requires c =
-    let s = cell_sizes c.args.self c.unit_cell-cell.ensures (by_true _ _ c.valid_job.ensures c.if-not-valid_job.false) in
-    (record { sizes = s.0; long = eqb-true _ _ (by_true _ _ c.fits.ensures c.if-not-fits.false) }, s.1)
+pub check_analysis-requires : goal.check_analysis-requires
+check_analysis-requires c = λ v. cell_sizes c.args.self c.unit_cell-cell.ensures (by_true _ _ c.valid_job.ensures v)
 
 pub returns : goal.returns
 returns c =
     let a = c.args in
-    pass 25 _ (not_t _ (by_true _ _ c.valid_job.ensures c.if-not-valid_job.false)) (pass 22 _ (not_t _ (eq-eqb _ _ c.if-self-ne2.false))
-    (pass 6 _ (not_t _ (by_true _ _ (cell_fits a.self a.volume.now c.unit_cell-cell.ensures c.fits.ensures) c.if-not-fits.false)) (pass 13 _ (le-ltb _ _ c.if-scratch-lt11520.false)
-    (c.check_map.ensures ∙ ap (λ (k : UnitCell). first (map_tests a.self.modulus k.group (cell_lengths k) a.volume.now)) c.unit_cell-cell.ensures))))
+    let j = a.self in
+    c.check_analysis.ensures ∙ ap₂ (λ (b : Bool) (k : UnitCell). first (analysis_tests_of b j.state j.modulus k.group (cell_lengths k) a.volume.now a.scratch)) c.valid_job.ensures c.unit_cell-cell.ensures

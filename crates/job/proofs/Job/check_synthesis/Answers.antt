@@ -1,9 +1,19 @@
--- Of a job that is no valid one, 25.
-use Rattle.refusals.proofs.Tests.{stop, not_f, by_false, by_true}
+-- The numbers are the job's own.
+use mathlib.Core.Path.{◌∙◌, ap₂}
+use mathlib.Core.Bool.{Bool}
+use Rattle.refusals.specs.Refusals.{first}
+use Rattle.refusals.proofs.Tests.{by_true}
+use Rattle.cell.specs.declared.operations.UnitCell.{UnitCell}
+use Rattle.cell.specs.Operations.{cell_lengths}
+use Rattle.job.specs.Job.{synthesis_tests_of}
+use Rattle.job.proofs.Jobs.{cell_sizes}
 use Rattle.job.proofs.Job.check_synthesis.Goals as goal
 
-pub returns-then-not-valid_job : goal.returns-then-not-valid_job
-returns-then-not-valid_job c = stop _ (not_f _ (by_false _ _ c.valid_job.ensures c.if-not-valid_job.true))
+pub check_synthesis-requires : goal.check_synthesis-requires
+check_synthesis-requires c = λ v. cell_sizes c.args.self c.unit_cell-cell.ensures (by_true _ _ c.valid_job.ensures v)
 
-pub check_valid_synthesis-requires : goal.check_valid_synthesis-requires
-check_valid_synthesis-requires c = by_true _ _ c.valid_job.ensures c.if-not-valid_job.false
+pub returns : goal.returns
+returns c =
+    let a = c.args in
+    let j = a.self in
+    c.check_synthesis.ensures ∙ ap₂ (λ (b : Bool) (k : UnitCell). first (synthesis_tests_of b j.state j.modulus k.group (cell_lengths k) a.volume.now a.scratch)) c.valid_job.ensures c.unit_cell-cell.ensures

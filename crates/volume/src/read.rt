@@ -21,7 +21,9 @@ pub fn run_below(r: Run, p: u32, volume: &[u32]) -> bool
     requires { r.first + r.count ≤ length volume.now }
     ensures { result ≡ all_below_at p volume.now (consecutive r.first r.count) }
 {
-    slices::buffers::all_below(&volume[r.first..r.first + r.count], p)
+    volume[r.first..r.first + r.count]
+        .iter()
+        .all(|number| *number < p)
 }
 
 // The numbers that the factor at j is read from are below p.

@@ -1,19 +1,21 @@
 -- The factor at any index as the code reads it: beyond the stored half it is what the line's own operation implies, and above k = B the conjugate of its mate.
 use mathlib.Core.Path.{◌≡◌, refl, sym, ◌∙◌, ap, ap₂, subst}
-use mathlib.Core.Logic.{◌⊎◌, inl, inr, ⊎_elim}
+use mathlib.Core.Logic.{◌⊎◌, inl, inr, ⊎_elim, ◌↔◌}
 use mathlib.Core.Bool.{Bool, true, false, ◌&&◌, cond}
-use mathlib.Core.List.{List}
+use mathlib.Core.List.{List, [], ◌∷◌}
 use Prim.Native.Nat.{ℕ, zero, suc, ◌+◌, ◌*◌, ◌-◌, ◌<◌, ◌≤◌, min}
 use native.Mathlib.Omega.{arith}
 use native.Mathlib.Numerals.{add-one}
-use lib.Dec.{leb, ltb}
+use lib.Dec.{T, leb, ltb, ltb→lt, lt→ltb}
 use lib.ListN.{length, get_or, take, drop}
 use lib.Seq.{drop-cons}
 use borrow.Author.Tests.{ne_eqb, le-leb, lt-leb}
+use Rattle.std.specs.Prelude.{IsTrue, EachIndex}
 use Rattle.algebra.specs.lines.Kinds.{Kind, Kind.alternating, Kind.symmetric, Kind.antisymmetric}
 use Rattle.algebra.specs.cells.Cell.{J, Inside, Sym, Group, P2₁, Pm, Pa, P2₁2₁2₁, neg_i, image_of, flip, span, implied_value, every}
 use Rattle.algebra.specs.cells.CellPlaces.{line_sym}
 use Rattle.algebra.specs.cells.CellPack.{even}
+use Rattle.algebra.proofs.ring.Bool.{and_l, and_r, and_i, same_test}
 use Rattle.algebra.proofs.ring.Laws.{along}
 use Rattle.algebra.proofs.cells.CellAxis.{neg_pos}
 use Rattle.numbers.specs.declared.Pair.{Pair}
@@ -94,6 +96,23 @@ module _ (g : Group) (a : J) (m : ℕ) (v : List ℕ) (j i : J) (e : i ≡ cond 
   mate_column l q = rw (lt-leb j.1 a.1 l) (q ∙ ap (λ z. pair_of (conj m z)) (value_by m _ f ∙ ap (line_factor g a m v) (e ∙ rw (lt-leb j.1 a.1 l) refl)))
 
 -- ---- a run of numbers below p
+
+-- a test that holds exactly where each number of a list is below p
+each_of : (p : ℕ) (l : List ℕ) → T (all_below p l) → (k : ℕ) → k < length l → get_or l k 0 < p
+unfolding all_below
+each_of p [] t k h = absurd (omega arith)
+each_of p (x ∷ l) t zero h = ltb→lt x p (and_l (ltb x p) _ t)
+each_of p (x ∷ l) t (suc k) h = each_of p l (and_r (ltb x p) _ t) k (omega arith)
+
+of_each : (p : ℕ) (l : List ℕ) → ((k : ℕ) → k < length l → get_or l k 0 < p) → T (all_below p l)
+unfolding all_below
+of_each p [] f = tt
+of_each p (x ∷ l) f = and_i (ltb x p) _ (lt→ltb x p (f zero (omega arith))) (of_each p l (λ k h. f (suc k) (omega arith)))
+
+pub tested_below : (p : ℕ) (l : List ℕ) {b : Bool} → (IsTrue b ↔ EachIndex l (λ k. get_or l k 0 < p)) → b ≡ all_below p l
+tested_below p l {b} h = same_test b (all_below p l)
+    (λ t. of_each p l (h.0 (same_test b true (λ u. tt) (λ u. t))))
+    (λ t. subst T (sym (h.1 (each_of p l t))) tt)
 
 run_below : (p : ℕ) (v : List ℕ) (first count : ℕ) → first + count ≤ length v → all_below p (take count (drop first v)) ≡ all_below_at p v (consecutive first count)
 unfolding all_below every consecutive

@@ -8,6 +8,7 @@ use Rattle.algebra.proofs.ring.Laws.{along}
 use Rattle.output.proofs.Writing.{wrote_append, wrote_as, ends_as, ends_left, ends_right}
 use Rattle.section.specs.Section.{mean, remainder, closing_line, closing_text, total_letter, mean_letter, remainder_letter}
 use Rattle.section.proofs.fields.put_closing.Goals as goal
+use Rattle.section.proofs.fields.put_closing.Goals.{After-rem_euclid-rest}
 
 -- the library's division and remainder are those of the page
 mean_is : (t : ℤ) (n : ℕ) → int_div_euclid t (pos n) ≡ mean t n
@@ -32,24 +33,26 @@ text {t} {q} {r} {n} f g h l e k =
     let last : to_z w64 (of_z w64 r) ≡ pos (remainder t n) = to_z-of_z w64 r h ∙ k ∙ (λ i. int_rem_euclid (whole i) (count i)) ∙ rest_is t n in
     λ i. closing_line total_letter (whole i) ++ (closing_line mean_letter (middle i) ++ closing_line remainder_letter (last i))
 
+-- so are the three lines that are written
+page : (c : After-rem_euclid-rest) → line total_letter c.args.total ++ (line mean_letter c.div_euclid-mean.result ++ line remainder_letter c.rem_euclid-rest.result) ≡ closing_text c.args.total c.args.points
+page c = text c.ranges.total (record { sfits = c.div_euclid-mean.type_inv }) (record { sfits = c.rem_euclid-rest.type_inv }) c.requires.le_points.1 c.div_euclid-mean.ensures c.rem_euclid-rest.ensures.value
+
 pub put_closing_line-second-requires : goal.put_closing_line-second-requires
 put_closing_line-second-requires c =
-    let page = text c.ranges.total (record { sfits = c.div_euclid-mean.type_inv }) (record { sfits = c.rem_euclid-rest.type_inv }) c.requires.le_points.1 c.div_euclid-mean.ensures c.rem_euclid-rest.ensures.value in
-    ends_left (line total_letter c.args.total) (line mean_letter c.div_euclid-mean.result ++ line remainder_letter c.rem_euclid-rest.result) (ends_as c.requires.ends (sym page))
+    let e = page (goal.at.put_closing_line-second-requires c).After-rem_euclid-rest in
+    ends_left (line total_letter c.args.total) _ (ends_as c.requires.ends (sym e))
 
 pub put_closing_line-third-requires : goal.put_closing_line-third-requires
 put_closing_line-third-requires c =
-    let page = text c.ranges.total (record { sfits = c.div_euclid-mean.type_inv }) (record { sfits = c.rem_euclid-rest.type_inv }) c.requires.le_points.1 c.div_euclid-mean.ensures c.rem_euclid-rest.ensures.value in
-    ends_left (line mean_letter c.div_euclid-mean.result) (line remainder_letter c.rem_euclid-rest.result)
-    (ends_right (line mean_letter c.div_euclid-mean.result ++ line remainder_letter c.rem_euclid-rest.result) c.put_closing_line-second.ensures (ends_as c.requires.ends (sym page)))
+    let e = page (goal.at.put_closing_line-third-requires c).After-rem_euclid-rest in
+    ends_left _ (line remainder_letter c.rem_euclid-rest.result) (ends_right _ c.put_closing_line-second.ensures (ends_as c.requires.ends (sym e)))
 
 pub put_closing_line-requires : goal.put_closing_line-requires
 put_closing_line-requires c =
-    let page = text c.ranges.total (record { sfits = c.div_euclid-mean.type_inv }) (record { sfits = c.rem_euclid-rest.type_inv }) c.requires.le_points.1 c.div_euclid-mean.ensures c.rem_euclid-rest.ensures.value in
-    ends_right (line remainder_letter c.rem_euclid-rest.result) c.put_closing_line-third.ensures
-    (ends_right (line mean_letter c.div_euclid-mean.result ++ line remainder_letter c.rem_euclid-rest.result) c.put_closing_line-second.ensures (ends_as c.requires.ends (sym page)))
+    let e = page (goal.at.put_closing_line-requires c).After-rem_euclid-rest in
+    ends_right _ c.put_closing_line-third.ensures (ends_right _ c.put_closing_line-second.ensures (ends_as c.requires.ends (sym e)))
 
 pub returns : goal.returns
 returns c =
-    let page = text c.ranges.total (record { sfits = c.div_euclid-mean.type_inv }) (record { sfits = c.rem_euclid-rest.type_inv }) c.requires.le_points.1 c.div_euclid-mean.ensures c.rem_euclid-rest.ensures.value in
-    wrote_as (wrote_append c.put_closing_line-second.ensures (wrote_append c.put_closing_line-third.ensures c.put_closing_line.ensures)) page
+    wrote_as (wrote_append c.put_closing_line-second.ensures (wrote_append c.put_closing_line-third.ensures c.put_closing_line.ensures))
+    (page (goal.at.returns c).After-rem_euclid-rest)

@@ -8,7 +8,7 @@ so_far : {E : Type 0} {f : ℕ → E} {n j k : ℕ} {d₀ d : List E} → Fillin
 so_far {f = f} {n} {d₀ = d₀} {d} h e = subst (λ q. Filling stores (λ j. j) f n q d₀ d) e h
 
 pub loop-start-init : goal.loop-start-init
-loop-start-init c = record { scored = so_far storing_start (omega arith); placed = so_far storing_start (omega arith); long = refl }
+loop-start-init c = record { scored = so_far storing_start (omega arith); placed = so_far storing_start (omega arith); rest = omega arith; long = refl }
 
 pub loop-start-preserved : goal.loop-start-preserved
 loop-start-preserved c =
@@ -17,6 +17,7 @@ loop-start-preserved c =
     record {
       scored = so_far (storing_more size.result (so_far c.loop-start.invariant.scored (omega arith)) fits c.windows.ensures.scores_after) (omega arith);
       placed = so_far (storing_more size.result (so_far c.loop-start.invariant.placed (omega arith)) fits c.windows.ensures.places_after) (omega arith);
+      rest = omega arith;
       long = c.suffixes.ensures.long;
     }
 

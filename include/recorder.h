@@ -35,7 +35,7 @@
    recorder_file_length, recorder_write_file, recorder_combine, recorder_combined_point, recorder_section, recorder_mrc, the maps of
    recorder_correlate, recorder_scheduler_enter) may be shared. Calls on one scheduler are made one after another: it is a value, and each needs
    what the last one gave. By measurement on x86-64 synthesis, analysis and recorder_correlate need less than 214,000 bytes of stack,
-   recorder_scheduler_turn less than 95,000, recorder_line less than 87,000, the other calls of a scheduler less than 3,600, every other call but
+   recorder_scheduler_turn less than 92,000, recorder_line less than 87,000, the other calls of a scheduler less than 3,600, every other call but
    one less than 1,000, whatever the grid: give a thread 256 KB or more. The one is recorder_file_faults, which is lent no volume and marks the
    orbits of a file in an array of 256 KB of its own; it needs less than 263,000: give a thread that calls it 384 KB or more.
 

@@ -1,5 +1,5 @@
 -- Refused by the check, or the lane set and the scratch cleared.
-use mathlib.Core.Path.{ap, ◌∙◌}
+use mathlib.Core.Path.{refl, ap, ◌∙◌}
 use lib.ListN.{length}
 use Rattle.lengths.specs.Lengths.{cleared}
 use Rattle.refusals.proofs.Handed.{handed_on}
@@ -21,8 +21,8 @@ line_count-requires c = let a = c.args in (enters a.self a.lane a.job a.volume.n
 pub overflow_sub-lane : goal.overflow_sub-lane
 overflow_sub-lane c = let a = c.args in (enters a.self a.lane a.job a.volume.now (length a.scratch.now) c.in_ok-check_enter.ensures).number.0
 
-pub with_lane-requires : goal.with_lane-requires
-with_lane-requires c = let a = c.args in below_eight (enters a.self a.lane a.job a.volume.now (length a.scratch.now) c.in_ok-check_enter.ensures).number
+pub bounds-entered-lane : goal.bounds-entered-lane
+bounds-entered-lane c = let a = c.args in below_eight (enters a.self a.lane a.job a.volume.now (length a.scratch.now) c.in_ok-check_enter.ensures).number
 
 pub returns-in_err-check_enter : goal.returns-in_err-check_enter
 returns-in_err-check_enter c =
@@ -34,4 +34,4 @@ pub returns : goal.returns
 unfolding cleared
 returns c =
     let a = c.args in
-    enter_done a.self a.lane a.job a.volume.now a.scratch.now _ _ c.line_count.result c.in_ok-check_enter.ensures c.line_count.ensures c.with_lane.ensures c.clear.ensures
+    enter_done a.self a.lane a.job a.volume.now a.scratch.now _ _ c.line_count.result c.in_ok-check_enter.ensures c.line_count.ensures refl c.clear.ensures
